@@ -1,0 +1,5 @@
+pub mod Nan
+pub mod SignBit
+pub mod Comparing
+pub mod Root
+pub mod Laws

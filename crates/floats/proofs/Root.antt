@@ -1,0 +1,16 @@
+-- The argument that `hypot` is the nearest value, in the order in which it is built up.
+pub mod Units
+pub mod Seek
+pub mod Values
+pub mod Laws
+pub mod Rounds
+pub mod Squares
+pub mod Small
+pub mod Whole
+pub mod Far
+pub mod Order
+pub mod Plus
+pub mod Units64
+pub mod Points
+pub mod Sums
+pub mod Sure

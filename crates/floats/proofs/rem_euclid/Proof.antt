@@ -1,0 +1,21 @@
+use borrow.Author.Needs.{needs}
+use mathlib.Core.Path.{_≡_, sym, ap, _∙_}
+use mathlib.Core.Bool.{Bool, cond}
+use lib.Ieee.{Float, ofBits, binary32, add, rem}
+use Rattle.floats.specs.Leaves.{remEuclid}
+use Rattle.floats.proofs.rem_euclid.Statement.{statement}
+use Rattle.floats.proofs.rem_euclid.Tie as tie
+
+abs-requires : tie.Need-abs-requires
+abs-requires c κs = search needs
+
+returns : tie.Need-returns
+unfolding remEuclid ofBits
+returns c = simp (c .before .if1 .taken, c .abs .ensures)
+
+returns-2 : tie.Need-returns-2
+unfolding remEuclid ofBits
+returns-2 c = simp (c .if1 .left)
+
+pub rem-euclid-spec : {M : Type 1} → statement M
+rem-euclid-spec = tie.close (tie.spec abs-requires returns returns-2)

@@ -1,0 +1,27 @@
+-- Kinds of values that the laws speak of. Definitions only.
+use mathlib.Core.Path.{_≡_}
+use mathlib.Core.Logic.{_⊎_}
+use mathlib.Core.Bool.{not, false}
+use lib.IntN.{pos}
+use lib.Dec.{T}
+use lib.Ieee.{Float, fin, Format, fits, isNan}
+use lib.Ieee.Scale
+use Rattle.floats.specs.Leaves.{abs}
+
+-- +0
+abbrev pub posZero : Float
+posZero = fin false 0 (pos 0)
+
+-- equal, or both of them zeros
+abbrev pub Alike : Float → Float → Type 0
+Alike x y = (x ≡ y) ⊎ ((abs x ≡ posZero) × (abs y ≡ posZero))
+
+-- a value of the format, and no NaN
+pub record Number (f : Format) (x : Float) : Type 0 where
+  pub fit : T (fits f x)
+  pub no-nan : T (not (isNan x))
+
+-- a value of the format, neither a NaN nor an infinity
+pub record Finite (f : Format) (x : Float) : Type 0 where
+  pub fit : T (fits f x)
+  pub finite : T (lib.Ieee.Scale.finite x)

@@ -1,0 +1,222 @@
+// The functions on floats that the rules use, each equal to its definition for every float. The rules see only these contracts and the laws.
+ghost use mathlib.Core.Path.{_≡_};
+ghost use mathlib.Core.Bool.{not};
+ghost use Prim.Native.Nat.{_<_, _^_};
+ghost use lib.Dec.{T};
+ghost use lib.Ieee as Ieee;
+ghost use lib.Ieee.{binary32, binary64, toBits, isNan, fits, add, mul};
+ghost use Rattle.floats.specs.Leaves as Spec;
+ghost use Rattle.floats.specs.Compare as Compare;
+ghost use Rattle.floats.specs.Hypot as Root;
+
+mod exact;
+
+pub fn is_nan(x: f32) -> bool
+    ensures { λ r. ⌜ r ≡ Ieee.isNan x ⌝ }
+{
+    x != x
+}
+
+// The bit pattern; of a NaN the one that `toBits` writes.
+pub fn bits(x: f32) -> u32
+    ensures { λ r. ⌜ r ≡ toBits binary32 x ⌝ }
+{
+    if x != x { 0x7fc0_0000 } else { f32::to_bits(x) }
+}
+
+// The value of any pattern. A NaN is made by arithmetic, since the language's own function asks that the pattern is none.
+pub fn from_bits(b: u32) -> f32
+    ensures { λ r. ⌜ r ≡ Ieee.ofBits binary32 b ⌝ }
+{
+    if 0x7f80_0000 < b % 0x8000_0000 {
+        let inf = f32::from_bits(0x7f80_0000);
+        inf - inf
+    } else {
+        f32::from_bits(b)
+    }
+}
+
+// The float of a count, for `k as f32`.
+pub fn from_count(k: u16) -> f32
+    ensures { λ r. ⌜ r ≡ Spec.ofCount k ⌝ }
+{
+    k as f32
+}
+
+// Whether the sign's bit is on.
+fn negative(x: f32) -> bool
+    ensures { λ r. ⌜ r ≡ Spec.negative x ⌝ }
+{
+    0x8000_0000 <= bits(x)
+}
+
+pub fn abs(x: f32) -> f32
+    ensures { λ r. ⌜ r ≡ Spec.abs x ⌝ }
+{
+    if x != x {
+        x
+    } else {
+        f32::from_bits(f32::to_bits(x) % 0x8000_0000)
+    }
+}
+
+pub fn copysign(x: f32, y: f32) -> f32
+    ensures { λ r. ⌜ r ≡ Spec.copysign x y ⌝ }
+{
+    let a = abs(x);
+    if negative(y) { -a } else { a }
+}
+
+pub fn min(x: f32, y: f32) -> f32
+    ensures { λ r. ⌜ r ≡ Spec.minimumNumber x y ⌝ }
+{
+    if is_nan(x) {
+        y
+    } else if is_nan(y) {
+        x
+    } else if x < y {
+        x
+    } else if y < x {
+        y
+    } else if negative(x) {
+        x
+    } else {
+        y
+    }
+}
+
+pub fn max(x: f32, y: f32) -> f32
+    ensures { λ r. ⌜ r ≡ Spec.maximumNumber x y ⌝ }
+{
+    if is_nan(x) {
+        y
+    } else if is_nan(y) {
+        x
+    } else if y < x {
+        x
+    } else if x < y {
+        y
+    } else if negative(x) {
+        y
+    } else {
+        x
+    }
+}
+
+// The Rust's clamp panics at a NaN bound and at lo above hi: here x comes back.
+pub fn clamp(x: f32, lo: f32, hi: f32) -> f32
+    ensures { λ r. ⌜ r ≡ Spec.clamp x lo hi ⌝ }
+{
+    if lo <= hi {
+        if x < lo {
+            lo
+        } else if hi < x {
+            hi
+        } else {
+            x
+        }
+    } else {
+        x
+    }
+}
+
+// The place of a pattern in the total order.
+fn key(b: u32) -> u32
+    ensures { λ r. ⌜ r ≡ Spec.totalKey b ⌝ }
+{
+    if 0x8000_0000 <= b {
+        0xffff_ffff - b
+    } else {
+        0x8000_0000 + b
+    }
+}
+
+// How two values compare.
+pub enum Order {
+    Less,
+    Equal,
+    Greater,
+}
+
+pub fn total_cmp(x: f32, y: f32) -> Order
+    ensures { λ r. ⌜ r ≡ Compare.order (Spec.totalOrder x y) ⌝ }
+{
+    let a = key(bits(x));
+    let b = key(bits(y));
+    if a < b {
+        Order::Less
+    } else if a == b {
+        Order::Equal
+    } else {
+        Order::Greater
+    }
+}
+
+pub fn rem_euclid(x: f32, y: f32) -> f32
+    ensures { λ r. ⌜ r ≡ Spec.remEuclid x y ⌝ }
+{
+    let r = x % y;
+    if r < 0.0 { r + abs(y) } else { r }
+}
+
+// The sum of the squares, rounded once: the squares of f32s are exact in f64.
+fn sum_of_squares(x: f32, y: f32) -> f64
+    requires { ⌜ T (not (isNan x)) × T (not (isNan y)) ⌝ }
+    ensures { λ r. ⌜ r ≡ add binary64 (mul binary64 x x) (mul binary64 y y) ⌝ }
+{
+    let a = x as f64;
+    let b = y as f64;
+    a * a + b * b
+}
+
+// A guess at the root of s. Nothing is claimed of it: `hypot` tests it.
+fn estimate(s: f64) -> f64
+    requires { ⌜ T (not (isNan s)) × (toBits binary64 s < 2 ^ 63) ⌝ }
+    ensures { λ r. ⌜ T (fits binary64 r) ⌝ }
+{
+    let a = f64::from_bits(0x5fe3_fc42_0000_0000 - f64::to_bits(s) / 2);
+    let g = s * a;
+    let z = g * a;
+    (g * ((z - 3.464667319328084) * z + 3.2229282691882393))
+        * (((z - 0.23622617366153478) * z + 0.5176767926241123)
+            * ((z - 1.9427116870954533) * z + 1.9718764790528178))
+}
+
+// The f32 nearest to the exact root, a tie to the even one. Where the exponents differ by 14 or more, that is the larger magnitude.
+// Else a guess r in f64 is taken if r * r is the sum of the squares to within a part in 2 ^ 35 and no point halfway between two f32s is so near to r:
+// the f32s are the f64s whose patterns are multiples of 2 ^ 29, and the points halfway lie in the middle between. What is left is worked out in whole numbers.
+pub fn hypot(x: f32, y: f32) -> f32
+    ensures { λ r. ⌜ r ≡ Root.hypot x y ⌝ }
+{
+    if x == x {
+        if y == y {
+            let p = f32::to_bits(x) % 0x8000_0000;
+            let q = f32::to_bits(y) % 0x8000_0000;
+            let hi = exact::larger(p, q);
+            let lo = exact::smaller(p, q);
+            if 0x0700_0000 <= hi - lo {
+                return f32::from_bits(hi);
+            }
+            let s = sum_of_squares(x, y);
+            let r = estimate(s);
+            let t = r * r;
+            if s * 0.9999999999708962 < t {
+                if t < s * 1.0000000000291038 {
+                    let b = std::num::wrapping_add_u64(f64::to_bits(r), 0x1000_0000);
+                    let k = b / 0x2000_0000;
+                    let m = b % 0x2000_0000;
+                    if 150000 <= m {
+                        if m <= 536720912 {
+                            if 0x1_c080_0000 < k {
+                                if k < 0x2_3f80_0000 {
+                                    return f32::from_bits((k - 0x1_c000_0000) as u32);
+                                }
+                            }
+                        }
+                    }
+                }
+            }
+        }
+    }
+    exact::exact(x, y)
+}

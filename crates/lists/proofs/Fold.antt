@@ -1,0 +1,33 @@
+-- What a loop that carries a state keeps: after i turns the state is `foldTo i f s`. Assumes nothing.
+use mathlib.Core.Path.{_≡_, refl, sym, ap, _∙_}
+use Prim.Native.Nat.{ℕ, zero, suc, _+_, _≤_, _<_}
+use native.Mathlib.Nat.{le-antisymm, le-refl, le-step}
+use native.Mathlib.Numerals.{add-one}
+use Rattle.lists.specs.Fold.{foldTo}
+
+module _ {S : Type 0} where
+  -- before the loop
+  pub fold-none : (f : ℕ → S → S) (s : S) → s ≡ foldTo 0 f s
+  unfolding foldTo
+  fold-none f s = refl
+
+  -- a turn
+  pub fold-turn : (f : ℕ → S → S) (s acc next : S) (i : ℕ) → acc ≡ foldTo i f s → next ≡ f i acc → next ≡ foldTo (i + 1) f s
+  unfolding foldTo
+  fold-turn f s acc next i e p = p ∙ ap (f i) e ∙ ap (λ (k : ℕ). foldTo k f s) (sym (add-one i))
+
+  -- the loop's end
+  pub fold-done : (f : ℕ → S → S) (s acc : S) (i n : ℕ) → i ≤ n → n ≤ i → acc ≡ foldTo i f s → acc ≡ foldTo n f s
+  fold-done f s acc i n a b e = e ∙ ap (λ (k : ℕ). foldTo k f s) (le-antisymm a b)
+
+  -- folds by steps that agree below n are equal
+  pub fold-same : (n : ℕ) (f g : ℕ → S → S) (s : S) → ((k : ℕ) (a : S) → k < n → f k a ≡ g k a) → foldTo n f s ≡ foldTo n g s
+  unfolding foldTo
+  fold-same zero f g s e = refl
+  fold-same (suc n) f g s e = e n (foldTo n f s) (le-refl (suc n)) ∙ ap (g n) (fold-same n f g s (λ k a h. e k a (le-step h)))
+
+  -- what holds at the start and is kept by each step holds at the end
+  pub fold-keeps : (P : S → Type 0) (f : ℕ → S → S) (s : S) (n : ℕ) → P s → ((k : ℕ) (a : S) → k < n → P a → P (f k a)) → P (foldTo n f s)
+  unfolding foldTo
+  fold-keeps P f s zero b t = b
+  fold-keeps P f s (suc n) b t = t n (foldTo n f s) (le-refl (suc n)) (fold-keeps P f s n b (λ k a h. t k a (le-step h)))

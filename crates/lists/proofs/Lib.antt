@@ -1,0 +1,6 @@
+pub mod Table
+pub mod Fold
+pub mod Gather
+pub mod Put
+pub mod Part
+pub mod Lengths

@@ -1,0 +1,4 @@
+pub mod Table
+pub mod Fold
+pub mod Gather
+pub mod Put
