@@ -108,7 +108,7 @@ pub fn hypot_by_squares(x: f32, y: f32) -> f32 {
 }
 
 /// The greatest difference of exponents for which four times the sum of the squares fits 128 bits.
-const ROOT_GAP: u32 = 38;
+const ROOT_GAP: u32 = 39;
 
 /// hypot by the whole part of a root, and a bit that says whether anything is left; none where 128 bits do not suffice.
 pub fn hypot_by_root(x: f32, y: f32, ties: Ties) -> Option<f32> {
@@ -121,7 +121,7 @@ pub fn hypot_by_root(x: f32, y: f32, ties: Ties) -> Option<f32> {
     if gap > ROOT_GAP {
         return None;
     }
-    let sum = (u128::from(a * a) << (2 * gap) | 0) + u128::from(b * b);
+    let sum = (u128::from(a * a) << (2 * gap)) + u128::from(b * b);
     let root = (4 * sum).isqrt();
     let left = root * root != 4 * sum;
     // In quarters of 2^low units; the lowest bit stands for all that is left.
@@ -136,7 +136,7 @@ pub fn hypot_by_root(x: f32, y: f32, ties: Ties) -> Option<f32> {
 }
 
 /// The magnitude nearest to v units, by cutting bits off.
-fn nearest_by_cut(v: &Big) -> u32 {
+pub fn nearest_by_cut(v: &Big) -> u32 {
     let s = v.length().saturating_sub(24);
     let k = v.down(s);
     if s == 0 {
@@ -191,7 +191,10 @@ fn remainder_by_doubling((m, e): (u64, u32), (n, d): (u64, u32)) -> Big {
     }
     let (dividend, divisor) = (Big::shifted(m, e), Big::shifted(n, d));
     // A divisor with d > 0 is normal, so a dividend of a lower exponent is below it.
-    assert!(dividend < divisor, "a dividend that is not below its divisor");
+    assert!(
+        dividend < divisor,
+        "a dividend that is not below its divisor"
+    );
     dividend
 }
 

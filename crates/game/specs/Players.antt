@@ -1,0 +1,31 @@
+-- The players of a side by their place, which is the number less one. Definitions only.
+use mathlib.Core.Bool.{false}
+use mathlib.Core.List.{List}
+use Prim.Native.Nat.{ℕ}
+use lib.ListN.{getD}
+use lib.Ieee.{nan}
+use Rattle.game.specs.declared.Side.{Side}
+use Rattle.game.specs.declared.Side.the-variants.{Home, Away}
+use Rattle.game.specs.declared.SeenPose.the-variants.{Absent}
+use Rattle.game.specs.declared.ReferencePose.the-variants.{NoReference}
+use Rattle.game.specs.declared.Penalty.the-variants.{NoPenalty}
+use Rattle.game.specs.declared.Player.{Player}
+use Rattle.game.specs.declared.Team.{Team}
+use Rattle.game.specs.declared.MaybeMargins.{MaybeMargins}
+use Rattle.game.specs.declared.MaybeMargins.the-variants.{NoMargins}
+use Rattle.game.specs.declared.PlayerMargins.{PlayerMargins}
+use Rattle.game.specs.declared.Situation.{Situation}
+
+-- the player past the last one
+abbrev pub nobody : Player
+nobody = record { pose = Absent; reference = NoReference; penalty = NoPenalty; allowance = nan; «previously_inside» = false }
+
+abbrev pub playerAt : Team → ℕ → Player
+playerAt t i = getD (t .players) i nobody
+
+abbrev pub marginsAt : List PlayerMargins → ℕ → MaybeMargins
+marginsAt ms i = getD ms i (record { margins = NoMargins }) .margins
+
+abbrev pub teamOf : Situation → Side → Team
+teamOf s Home = s .home
+teamOf s Away = s .away

@@ -1,0 +1,369 @@
+// The used types of types.rs and lib.rs, and the situation that a decision is asked of. Everything goes by value.
+// Each "or none" is an enum whose empty case stands first, so that it is the value past the end of an array.
+ghost use mathlib.Core.Path.{_≡_};
+ghost use Rattle.game.specs.Game as Spec;
+ghost use Rattle.game.specs.Players as Players;
+
+// The team listed first on the schedule, and the other.
+pub enum Side {
+    Home,
+    Away,
+}
+
+// Which goal the home team defends. The left goal is at positive x.
+pub enum SideMapping {
+    HomeDefendsLeftGoal,
+    HomeDefendsRightGoal,
+}
+
+pub enum Phase {
+    FirstHalf,
+    SecondHalf,
+    FirstExtraHalf,
+    SecondExtraHalf,
+    PenaltyShootout,
+}
+
+pub enum State {
+    Initial,
+    Ready,
+    Set,
+    Playing,
+    Finished,
+    Timeout,
+}
+
+pub enum SetPlay {
+    NoSetPlay,
+    KickOff,
+    DirectFreeKick,
+    IndirectFreeKick,
+    PenaltyKick,
+    ThrowIn,
+    GoalKick,
+    CornerKick,
+}
+
+pub enum Penalty {
+    NoPenalty,
+    IllegalPositioning,
+    MotionInSet,
+    MotionInStop,
+    LocalGameStuck,
+    IncapableRobot,
+    PickedUp,
+    BallHolding,
+    LeavingTheField,
+    PlayingWithArmsHands,
+    Pushing,
+    Cautioned,
+    SentOff,
+    Substitute,
+}
+
+// PlayerNumber::MIN and PlayerNumber::MAX.
+pub const MIN: u8 = 1;
+
+pub const MAX: u8 = 20;
+
+pub enum MaybeSide {
+    NoSide,
+    Of(Side),
+}
+
+pub enum MaybeNumber {
+    NoNumber,
+    Number(u8),
+}
+
+// The dimensions of the field, in metres.
+pub struct FieldDimensions {
+    pub length: f32,
+    pub width: f32,
+    pub goal_width: f32,
+    pub goal_height: f32,
+    pub goal_area_length: f32,
+    pub goal_area_width: f32,
+    pub penalty_area_length: f32,
+    pub penalty_area_width: f32,
+    pub penalty_mark_distance: f32,
+    pub center_circle_radius: f32,
+    pub border_strip_width: f32,
+    pub mark_radius: f32,
+    pub line_width: f32,
+    pub ball_radius: f32,
+}
+
+// Where a player stands.
+pub struct PlayerPose {
+    pub x: f32,
+    pub y: f32,
+    pub theta: f32,
+    pub radius: f32,
+}
+
+// The pose that the judges see, where the player is present.
+pub enum SeenPose {
+    Absent,
+    Present(PlayerPose),
+}
+
+// The pose that motion is measured from, where there is one. It is a type of its own, so that what is seen can change alone.
+pub enum ReferencePose {
+    NoReference,
+    Reference(PlayerPose),
+}
+
+// What the situation holds of one player.
+pub struct Player {
+    pub pose: SeenPose,
+    pub reference: ReferencePose,
+    pub penalty: Penalty,
+    pub allowance: f32,
+    pub previously_inside: bool,
+}
+
+// One side's players, by number - 1, and its goalkeeper.
+pub struct Team {
+    pub players: [Player; 20],
+    pub goalkeeper: MaybeNumber,
+}
+
+// How far a player is inside its own goal area, its own penalty area and the opponents' penalty area; below 0 it is outside.
+pub struct Margins {
+    pub own_goal_area: f32,
+    pub own_penalty_area: f32,
+    pub opponent_penalty_area: f32,
+}
+
+// The margins of a player, where it is present.
+pub enum MaybeMargins {
+    NoMargins,
+    Known(Margins),
+}
+
+// An element of a side's list of margins.
+pub struct PlayerMargins {
+    pub margins: MaybeMargins,
+}
+
+pub enum RestartKind {
+    KickOff,
+    Indirect,
+    Direct,
+    PenaltyShot,
+}
+
+// The restart that is in effect, its kicker without the time of the kick. The kick position is not read.
+pub struct Restart {
+    pub kind: RestartKind,
+    pub set_play: SetPlay,
+    pub side: Side,
+    pub kicker: MaybeNumber,
+    pub kick_x: f32,
+    pub kick_y: f32,
+    pub other_touch: bool,
+    pub kicker_touched_outside_center_circle: bool,
+    pub kicker_touched_far_from_kick: bool,
+    pub ball_moved_since_kick: bool,
+}
+
+pub enum MaybeRestart {
+    NoRestart,
+    InEffect(Restart),
+}
+
+// The game without its teams.
+pub struct Game {
+    pub sides: SideMapping,
+    pub stopped: bool,
+    pub phase: Phase,
+    pub state: State,
+    pub set_play: SetPlay,
+    pub kicking_side: MaybeSide,
+}
+
+pub struct Ball {
+    pub x: f32,
+    pub y: f32,
+    pub z: f32,
+}
+
+// The placement wish: a named player is a side and a number.
+pub enum Wish {
+    Nothing,
+    BallAtRestart,
+    BallInSet,
+    ForPenalty(Side, u8),
+    ForPenaltyShot(Side, u8),
+    Goalkeeper(Side),
+}
+
+// One moment of a match, with what the referee remembers. The earlier places of the batch are two lists beside it.
+pub struct Situation {
+    pub field: FieldDimensions,
+    pub penalty_placement_distance: f32,
+    pub game: Game,
+    pub home: Team,
+    pub away: Team,
+    pub ball: Ball,
+    pub last_contact: MaybeSide,
+    pub restart: MaybeRestart,
+    pub invalid_goals_judged: bool,
+    pub ball_rested: bool,
+    pub wish: Wish,
+}
+
+// The other side.
+pub fn opponent(side: Side) -> Side
+    ensures { λ r. ⌜ r ≡ Spec.opponent side ⌝ }
+{
+    match side {
+        Side::Home => Side::Away,
+        Side::Away => Side::Home,
+    }
+}
+
+pub fn same_side(a: Side, b: Side) -> bool
+    ensures { λ r. ⌜ r ≡ Spec.sameSide a b ⌝ }
+{
+    match a {
+        Side::Home => match b {
+            Side::Home => true,
+            Side::Away => false,
+        },
+        Side::Away => match b {
+            Side::Home => false,
+            Side::Away => true,
+        },
+    }
+}
+
+// Whether a side that may be missing is there and is this one.
+pub fn is_side(a: MaybeSide, side: Side) -> bool
+    ensures { λ r. ⌜ r ≡ Spec.isSide a side ⌝ }
+{
+    match a {
+        MaybeSide::NoSide => false,
+        MaybeSide::Of(b) => same_side(b, side),
+    }
+}
+
+// Whether a number that may be missing is there and is this one.
+pub fn is_number(a: MaybeNumber, number: u8) -> bool
+    ensures { λ r. ⌜ r ≡ Spec.isNumber a number ⌝ }
+{
+    match a {
+        MaybeNumber::NoNumber => false,
+        MaybeNumber::Number(n) => n == number,
+    }
+}
+
+pub fn is_shootout(phase: Phase) -> bool
+    ensures { λ r. ⌜ r ≡ Spec.isShootout phase ⌝ }
+{
+    match phase {
+        Phase::FirstHalf => false,
+        Phase::SecondHalf => false,
+        Phase::FirstExtraHalf => false,
+        Phase::SecondExtraHalf => false,
+        Phase::PenaltyShootout => true,
+    }
+}
+
+pub fn is_set(state: State) -> bool
+    ensures { λ r. ⌜ r ≡ Spec.isSet state ⌝ }
+{
+    match state {
+        State::Initial => false,
+        State::Ready => false,
+        State::Set => true,
+        State::Playing => false,
+        State::Finished => false,
+        State::Timeout => false,
+    }
+}
+
+pub fn is_playing(state: State) -> bool
+    ensures { λ r. ⌜ r ≡ Spec.isPlaying state ⌝ }
+{
+    match state {
+        State::Initial => false,
+        State::Ready => false,
+        State::Set => false,
+        State::Playing => true,
+        State::Finished => false,
+        State::Timeout => false,
+    }
+}
+
+pub fn is_unpenalized(penalty: Penalty) -> bool
+    ensures { λ r. ⌜ r ≡ Spec.isUnpenalized penalty ⌝ }
+{
+    match penalty {
+        Penalty::NoPenalty => true,
+        Penalty::IllegalPositioning => false,
+        Penalty::MotionInSet => false,
+        Penalty::MotionInStop => false,
+        Penalty::LocalGameStuck => false,
+        Penalty::IncapableRobot => false,
+        Penalty::PickedUp => false,
+        Penalty::BallHolding => false,
+        Penalty::LeavingTheField => false,
+        Penalty::PlayingWithArmsHands => false,
+        Penalty::Pushing => false,
+        Penalty::Cautioned => false,
+        Penalty::SentOff => false,
+        Penalty::Substitute => false,
+    }
+}
+
+pub fn is_present(pose: SeenPose) -> bool
+    ensures { λ r. ⌜ r ≡ Spec.isPresent pose ⌝ }
+{
+    match pose {
+        SeenPose::Absent => false,
+        SeenPose::Present(_) => true,
+    }
+}
+
+// The player with the number i + 1. Beyond the last one it is absent, unpenalised, with no reference, an allowance of NaN, and was not inside.
+pub fn player_at(team: Team, i: usize) -> Player
+    ensures { λ r. ⌜ r ≡ Players.playerAt team i ⌝ }
+{
+    if i < 20 {
+        let a = team.players;
+        return a[i];
+    }
+    let pose = SeenPose::Absent;
+    let reference = ReferencePose::NoReference;
+    let penalty = Penalty::NoPenalty;
+    let allowance = 0.0 / 0.0;
+    Player {
+        pose,
+        reference,
+        penalty,
+        allowance,
+        previously_inside: false,
+    }
+}
+
+// The margins of the player with the number i + 1, none beyond the last one.
+pub fn margins_at(margins: [PlayerMargins; 20], i: usize) -> MaybeMargins
+    ensures { λ r. ⌜ r ≡ Players.marginsAt margins i ⌝ }
+{
+    if i < 20 {
+        let m = margins[i];
+        return m.margins;
+    }
+    MaybeMargins::NoMargins
+}
+
+pub fn team_of(s: Situation, side: Side) -> Team
+    ensures { λ r. ⌜ r ≡ Players.teamOf s side ⌝ }
+{
+    match side {
+        Side::Home => s.home,
+        Side::Away => s.away,
+    }
+}
