@@ -1,3 +1,4 @@
+pub mod Arithmetic
 pub mod Leaves
 pub mod Compare
 pub mod Hypot

@@ -1,0 +1,29 @@
+-- The operations of binary32, each rounded once, as operators. Definitions only.
+use lib.Ieee.{Float, binary32, add, sub, mul, ofBits}
+
+infixl 6 _+ᶠ_ _-ᶠ_
+infixl 7 _*ᶠ_
+-- the sum
+abbrev pub _+ᶠ_ : Float → Float → Float
+x +ᶠ y = add binary32 x y
+
+-- the difference
+abbrev pub _-ᶠ_ : Float → Float → Float
+x -ᶠ y = sub binary32 x y
+
+-- the product
+abbrev pub _*ᶠ_ : Float → Float → Float
+x *ᶠ y = mul binary32 x y
+
+-- 0, 0.5, 1 and the f32 nearest to pi
+abbrev pub zero32 : Float
+zero32 = ofBits binary32 0
+
+abbrev pub half : Float
+half = ofBits binary32 0x3f00_0000
+
+abbrev pub one : Float
+one = ofBits binary32 0x3f80_0000
+
+abbrev pub pi : Float
+pi = ofBits binary32 0x4049_0fdb
