@@ -1,19 +1,19 @@
 -- The operations of binary32, each rounded once, as operators. Definitions only.
 use lib.Ieee.{Float, binary32, add, sub, mul, ofBits}
 
-infixl 6 _+ᶠ_ _-ᶠ_
-infixl 7 _*ᶠ_
+infixl 6 _+₃₂_ _-₃₂_
+infixl 7 _*₃₂_
 -- the sum
-abbrev pub _+ᶠ_ : Float → Float → Float
-x +ᶠ y = add binary32 x y
+abbrev pub _+₃₂_ : Float → Float → Float
+x +₃₂ y = add binary32 x y
 
 -- the difference
-abbrev pub _-ᶠ_ : Float → Float → Float
-x -ᶠ y = sub binary32 x y
+abbrev pub _-₃₂_ : Float → Float → Float
+x -₃₂ y = sub binary32 x y
 
 -- the product
-abbrev pub _*ᶠ_ : Float → Float → Float
-x *ᶠ y = mul binary32 x y
+abbrev pub _*₃₂_ : Float → Float → Float
+x *₃₂ y = mul binary32 x y
 
 -- 0, 0.5, 1 and the f32 nearest to pi
 abbrev pub zero32 : Float

@@ -1,7 +1,8 @@
 //! The command `bench`: the library's entries against std's methods, on the same inputs in the same run.
 //!
-//! Ours is called through the C entry. Std's is called through a C function of this program that is never inlined, so that
-//! each costs one call from the loop. (That function goes on to the C library by a jump; "std inlined" is without it.)
+//! Ours is called through the C entry. Std's is called through a C function of this program that is never inlined, so
+//! that each costs one call from the loop. That function goes on to the C library by a jump; the column "inlined" is
+//! std's method without it, called as a program would.
 
 use crate::inputs::{Pair, random_bits, signed, two_subnormals};
 use crate::random::Random;
@@ -20,14 +21,14 @@ extern "C" fn std_rem_euclid(x: f32, y: f32) -> f32 {
     x.rem_euclid(y)
 }
 
-/// What a call costs that does nothing.
+/// One addition: what the loop and a call cost by themselves.
 #[inline(never)]
-extern "C" fn nothing(x: f32, y: f32) -> f32 {
-    black_box(x) + y
+extern "C" fn sum(x: f32, y: f32) -> f32 {
+    x + y
 }
 
 const PAIRS: usize = 4096;
-const REPEATS: usize = 1001;
+const REPEATS: usize = 2001;
 
 /// Calls that do not wait for each other. The answers are folded together, so that none can be left out.
 fn throughput(pairs: &[Pair], f: impl Fn(f32, f32) -> f32) -> f64 {
@@ -40,7 +41,8 @@ fn throughput(pairs: &[Pair], f: impl Fn(f32, f32) -> f32) -> f64 {
     start.elapsed().as_secs_f64()
 }
 
-/// Calls of which each needs the answer before it: a mask that is zero, which the compiler cannot know, takes its bits into the next input.
+/// Calls each of which waits for the one before: bits of its answer go into the next input, through a mask that is zero,
+/// which the compiler cannot know.
 fn dependent(pairs: &[Pair], f: impl Fn(f32, f32) -> f32) -> f64 {
     let mask = black_box(0);
     let start = Instant::now();
@@ -52,64 +54,75 @@ fn dependent(pairs: &[Pair], f: impl Fn(f32, f32) -> f32) -> f64 {
     start.elapsed().as_secs_f64()
 }
 
-/// ns for one call
+/// In ns for one call.
 fn median(mut seconds: Vec<f64>) -> f64 {
     seconds.sort_by(f64::total_cmp);
     seconds[seconds.len() / 2] * 1e9 / PAIRS as f64
 }
 
-/// The median times of several measurements, taken in turn so that a slow moment meets all of them.
-fn in_turn(measure: &[&dyn Fn() -> f64]) -> Vec<f64> {
-    let mut times = vec![Vec::with_capacity(REPEATS); measure.len()];
+/// The medians of several measurements, taken in turn so that a slow moment of the machine meets all of them.
+fn in_turn<const N: usize>(measurements: [&dyn Fn() -> f64; N]) -> [f64; N] {
+    let mut times = [const { Vec::new() }; N];
     for repeat in 0..REPEATS {
-        for i in 0..measure.len() {
-            // Another one begins each time: what comes first has other caches and predictions.
-            let i = (i + repeat) % measure.len();
-            times[i].push(measure[i]());
+        for i in 0..N {
+            // A different one comes first each time.
+            let i = (i + repeat) % N;
+            times[i].push(measurements[i]());
         }
     }
-    times.into_iter().map(median).collect()
+    times.map(median)
 }
 
 struct Row {
     name: &'static str,
     draw: fn(&mut Random) -> Pair,
-    /// The most that ours may take, as a multiple of std's.
+    /// The most that ours should take, as a multiple of std's time.
     limit: Option<f64>,
+}
+
+const fn row(name: &'static str, draw: fn(&mut Random) -> Pair, limit: Option<f64>) -> Row {
+    Row { name, draw, limit }
 }
 
 const HYPOT: [Row; 8] = [
     row("close exponents", hypot_inputs::close_exponents, Some(2.0)),
     row("random bits", random_bits, Some(1.2)),
     row("zeros", zeros, Some(1.2)),
-    row("one zero", one_zero, None),
-    row("both zero", both_zero, None),
+    row("one zero", one_zero, Some(1.2)),
+    row("two zeros", two_zeros, Some(1.2)),
     row("subnormals", two_subnormals, Some(6.0)),
-    row("exact squares", hypot_inputs::exact_squares, Some(2.0)),
+    row("exact squares", exact_squares, Some(2.0)),
     row("field distances", hypot_inputs::field_distances, Some(2.0)),
 ];
 
-const REM_EUCLID: [Row; 1] = [row("rem_euclid at angles", rem_inputs::angles_64, None)];
+const REM_EUCLID: [Row; 1] = [row("angles", rem_inputs::angles_64, None)];
 
-const fn row(name: &'static str, draw: fn(&mut Random) -> Pair, limit: Option<f64>) -> Row {
-    Row { name, draw, limit }
-}
-
-fn both_zero(random: &mut Random) -> Pair {
+fn two_zeros(random: &mut Random) -> Pair {
     (signed(random, 0), signed(random, 0))
 }
 
-/// A zero beside a distance on the field.
+/// A zero beside a difference of coordinates.
 fn one_zero(random: &mut Random) -> Pair {
     let zero = signed(random, 0);
     let (x, _) = hypot_inputs::field_distances(random);
     if random.coin() { (x, zero) } else { (zero, x) }
 }
 
+/// One zero or two.
 fn zeros(random: &mut Random) -> Pair {
     match random.within(0, 3) {
-        0 => both_zero(random),
+        0 => two_zeros(random),
         _ => one_zero(random),
+    }
+}
+
+/// Of no subnormals: those have a row of their own.
+fn exact_squares(random: &mut Random) -> Pair {
+    loop {
+        let (x, y) = hypot_inputs::exact_squares(random);
+        if x.is_normal() && y.is_normal() {
+            return (x, y);
+        }
     }
 }
 
@@ -121,52 +134,53 @@ fn measure(
 ) {
     let mut random = Random::new(1);
     let pairs: Vec<Pair> = (0..PAIRS).map(|_| (row.draw)(&mut random)).collect();
-    let pairs = &pairs[..];
-    let times = in_turn(&[
-        &|| throughput(pairs, ours),
-        &|| throughput(pairs, std),
-        &|| throughput(pairs, inlined),
-        &|| throughput(pairs, |x, y| nothing(x, y)),
-        &|| dependent(pairs, ours),
-        &|| dependent(pairs, std),
-        &|| dependent(pairs, inlined),
-        &|| dependent(pairs, |x, y| nothing(x, y)),
+    let times = in_turn([
+        &|| throughput(&pairs, ours),
+        &|| throughput(&pairs, std),
+        &|| throughput(&pairs, inlined),
+        &|| dependent(&pairs, ours),
+        &|| dependent(&pairs, std),
+        &|| dependent(&pairs, inlined),
     ]);
-    print!("{:22}", row.name);
-    for part in times.chunks(4) {
-        let (ours, std) = (part[0], part[1]);
-        print!(
-            "{ours:9.2}{std:9.2}{:8.2}{:9.2}{:9.2}",
-            ours / std,
-            part[2],
-            part[3]
-        );
+    print!("{:20}", row.name);
+    for part in times.chunks(3) {
+        let ratio = part[0] / part[1];
+        print!("{:9.2}{:9.2}{ratio:9.2}{:9.2}", part[0], part[1], part[2]);
     }
     match row.limit {
         Some(limit) => {
-            let met = times.chunks(4).all(|part| part[0] <= limit * part[1]);
-            println!("{limit:8.1} {}", if met { "met" } else { "missed" });
+            let met = |part: &[f64]| {
+                if part[0] <= limit * part[1] {
+                    "met"
+                } else {
+                    "missed"
+                }
+            };
+            println!("{limit:9.1}  {}, {}", met(&times[..3]), met(&times[3..]));
         }
-        None => println!("{:>8}", "-"),
+        None => println!("{:>9}", "none"),
     }
+}
+
+fn heading(name: &str) {
+    print!("{name:20}");
+    for _ in 0..2 {
+        print!("{:>9}{:>9}{:>9}{:>9}", "ours", "std", "ratio", "inlined");
+    }
+    println!("{:>9}", "limit");
 }
 
 pub fn run() -> ExitCode {
     println!(
-        "ns for one call, the median of {REPEATS} runs over {PAIRS} pairs; ratio: ours by std's; empty: a call that does nothing\n"
+        "ns for one call: the median of {REPEATS} runs over {PAIRS} pairs. ratio: ours / std. limit: the most for the"
     );
-    println!("{:22}{:^44}{:^44}", "", "throughput", "dependent");
-    print!("{:22}", "hypot");
-    for _ in 0..2 {
-        print!(
-            "{:>9}{:>9}{:>8}{:>9}{:>9}",
-            "ours", "std", "ratio", "inlined", "empty"
-        );
-    }
-    println!("{:>8}", "limit");
+    println!("ratio, and whether the throughput and the dependent calls meet it.\n");
+    println!("{:20}{:^36}{:^36}", "", "throughput", "dependent");
+    heading("hypot");
     for row in &HYPOT {
         measure(row, library::hypot, |x, y| std_hypot(x, y), f32::hypot);
     }
+    heading("rem_euclid");
     for row in &REM_EUCLID {
         measure(
             row,
@@ -175,5 +189,15 @@ pub fn run() -> ExitCode {
             f32::rem_euclid,
         );
     }
+    let mut random = Random::new(1);
+    let pairs: Vec<Pair> = (0..PAIRS)
+        .map(|_| hypot_inputs::field_distances(&mut random))
+        .collect();
+    let [alone, waiting] = in_turn([&|| throughput(&pairs, |x, y| sum(x, y)), &|| {
+        dependent(&pairs, |x, y| sum(x, y))
+    }]);
+    println!(
+        "\nThe loop and a call of one addition, which are part of each time: {alone:.2}, dependent {waiting:.2}"
+    );
     ExitCode::SUCCESS
 }
