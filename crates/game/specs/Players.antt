@@ -2,7 +2,7 @@
 use mathlib.Core.Bool.{false}
 use mathlib.Core.List.{List}
 use Prim.Native.Nat.{ℕ}
-use lib.ListN.{getD}
+use lib.ListN.{getD, length, replicate}
 use lib.Ieee.{nan}
 use Rattle.game.specs.declared.Side.{Side}
 use Rattle.game.specs.declared.Side.the-variants.{Home, Away}
@@ -14,7 +14,9 @@ use Rattle.game.specs.declared.Team.{Team}
 use Rattle.game.specs.declared.MaybeMargins.{MaybeMargins}
 use Rattle.game.specs.declared.MaybeMargins.the-variants.{NoMargins}
 use Rattle.game.specs.declared.PlayerMargins.{PlayerMargins}
+use Rattle.game.specs.declared.PlayerList.{PlayerList}
 use Rattle.game.specs.declared.Situation.{Situation}
+use Rattle.lists.specs.Put.{fronted}
 
 -- the player past the last one
 abbrev pub nobody : Player
@@ -29,3 +31,8 @@ marginsAt ms i = getD ms i (record { margins = NoMargins }) .margins
 abbrev pub teamOf : Situation → Side → Team
 teamOf s Home = s .home
 teamOf s Away = s .away
+
+-- the numbers l as a counted array
+unfoldable pub listed : List ℕ → PlayerList
+unfolding fronted
+listed l = record { count = length l; numbers = fronted l (replicate 20 0) }

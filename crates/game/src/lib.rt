@@ -214,6 +214,12 @@ pub struct Situation {
     pub wish: Wish,
 }
 
+// A list of players of one side by their numbers: the first `count` of the array, the rest of it 0.
+pub struct PlayerList {
+    pub count: usize,
+    pub numbers: [u8; 20],
+}
+
 // The other side.
 pub fn opponent(side: Side) -> Side
     ensures { λ r. ⌜ r ≡ Spec.opponent side ⌝ }

@@ -1,5 +1,6 @@
 //! Whole numbers below 2^640, with the few operations that the exact answers need.
 
+use std::array;
 use std::cmp::Ordering;
 
 /// The number of words: four times the sum of the squares of two f32s, in units of 2^-298, is below 2^557.
@@ -23,27 +24,23 @@ impl Big {
     }
 
     pub fn plus(&self, other: &Big) -> Big {
-        let mut words = [0; WORDS];
         let mut carry = false;
-        for i in 0..WORDS {
-            let (a, c) = self.0[i].overflowing_add(other.0[i]);
-            let (b, d) = a.overflowing_add(u64::from(carry));
-            words[i] = b;
-            carry = c | d;
-        }
+        let words = array::from_fn(|i| {
+            let word;
+            (word, carry) = self.0[i].carrying_add(other.0[i], carry);
+            word
+        });
         assert!(!carry, "a sum of 2^640 or more");
         Big(words)
     }
 
     pub fn minus(&self, other: &Big) -> Big {
-        let mut words = [0; WORDS];
         let mut borrow = false;
-        for i in 0..WORDS {
-            let (a, c) = self.0[i].overflowing_sub(other.0[i]);
-            let (b, d) = a.overflowing_sub(u64::from(borrow));
-            words[i] = b;
-            borrow = c | d;
-        }
+        let words = array::from_fn(|i| {
+            let word;
+            (word, borrow) = self.0[i].borrowing_sub(other.0[i], borrow);
+            word
+        });
         assert!(!borrow, "a difference below 0");
         Big(words)
     }
