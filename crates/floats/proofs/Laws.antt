@@ -7,6 +7,7 @@ pub mod Near
 pub mod Rounding
 pub mod Zeros
 pub mod Products
+pub mod Nearest
 pub mod Distance
 pub mod Candidates
 pub mod Places

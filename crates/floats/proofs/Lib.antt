@@ -3,3 +3,4 @@ pub mod SignBit
 pub mod Comparing
 pub mod Root
 pub mod Laws
+pub mod Cases

@@ -2,7 +2,7 @@
 pub mod Units
 pub mod Seek
 pub mod Values
-pub mod Laws
+pub mod Nearest
 pub mod Rounds
 pub mod Squares
 pub mod Small

@@ -71,7 +71,7 @@ pub fn min(x: f32, y: f32) -> f32
     ensures { λ r. ⌜ r ≡ Spec.minimumNumber x y ⌝ }
 {
     if is_nan(x) {
-        y
+        y // the number, where x is a NaN
     } else if is_nan(y) {
         x
     } else if x < y {
@@ -79,7 +79,7 @@ pub fn min(x: f32, y: f32) -> f32
     } else if y < x {
         y
     } else if negative(x) {
-        x
+        x // of the zeros -0
     } else {
         y
     }
@@ -89,7 +89,7 @@ pub fn max(x: f32, y: f32) -> f32
     ensures { λ r. ⌜ r ≡ Spec.maximumNumber x y ⌝ }
 {
     if is_nan(x) {
-        y
+        y // the number too, where x is a NaN
     } else if is_nan(y) {
         x
     } else if y < x {
@@ -97,7 +97,7 @@ pub fn max(x: f32, y: f32) -> f32
     } else if x < y {
         y
     } else if negative(x) {
-        y
+        y // of the zeros +0
     } else {
         x
     }

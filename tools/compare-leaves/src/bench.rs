@@ -27,8 +27,8 @@ extern "C" fn sum(x: f32, y: f32) -> f32 {
     x + y
 }
 
-const PAIRS: usize = 4096;
-const REPEATS: usize = 2001;
+/// About how many calls each median is made of.
+const CALLS: usize = 8_000_000;
 
 /// Calls that do not wait for each other. The answers are folded together, so that none can be left out.
 fn throughput(pairs: &[Pair], f: impl Fn(f32, f32) -> f32) -> f64 {
@@ -54,23 +54,32 @@ fn dependent(pairs: &[Pair], f: impl Fn(f32, f32) -> f32) -> f64 {
     start.elapsed().as_secs_f64()
 }
 
-/// In ns for one call.
-fn median(mut seconds: Vec<f64>) -> f64 {
-    seconds.sort_by(f64::total_cmp);
-    seconds[seconds.len() / 2] * 1e9 / PAIRS as f64
+fn median(mut times: Vec<f64>) -> f64 {
+    times.sort_by(f64::total_cmp);
+    times[times.len() / 2]
 }
 
-/// The medians of several measurements, taken in turn so that a slow moment of the machine meets all of them.
-fn in_turn<const N: usize>(measurements: [&dyn Fn() -> f64; N]) -> [f64; N] {
+fn repeats(pairs: usize) -> usize {
+    (CALLS / pairs).max(100)
+}
+
+/// The medians of several measurements, in ns for one call. They are taken in turn, so that a slow moment of the machine
+/// meets all of them.
+fn in_turn<const N: usize>(pairs: usize, measurements: [&dyn Fn() -> f64; N]) -> [f64; N] {
     let mut times = [const { Vec::new() }; N];
-    for repeat in 0..REPEATS {
+    for repeat in 0..repeats(pairs) {
         for i in 0..N {
             // A different one comes first each time.
             let i = (i + repeat) % N;
-            times[i].push(measurements[i]());
+            times[i].push(measurements[i]() * 1e9 / pairs as f64);
         }
     }
     times.map(median)
+}
+
+fn drawn(pairs: usize, draw: fn(&mut Random) -> Pair) -> Vec<Pair> {
+    let mut random = Random::new(1);
+    (0..pairs).map(|_| draw(&mut random)).collect()
 }
 
 struct Row {
@@ -128,20 +137,23 @@ fn exact_squares(random: &mut Random) -> Pair {
 
 fn measure(
     row: &Row,
+    pairs: usize,
     ours: impl Fn(f32, f32) -> f32 + Copy,
     std: impl Fn(f32, f32) -> f32 + Copy,
     inlined: impl Fn(f32, f32) -> f32 + Copy,
 ) {
-    let mut random = Random::new(1);
-    let pairs: Vec<Pair> = (0..PAIRS).map(|_| (row.draw)(&mut random)).collect();
-    let times = in_turn([
-        &|| throughput(&pairs, ours),
-        &|| throughput(&pairs, std),
-        &|| throughput(&pairs, inlined),
-        &|| dependent(&pairs, ours),
-        &|| dependent(&pairs, std),
-        &|| dependent(&pairs, inlined),
-    ]);
+    let list = drawn(pairs, row.draw);
+    let times = in_turn(
+        pairs,
+        [
+            &|| throughput(&list, ours),
+            &|| throughput(&list, std),
+            &|| throughput(&list, inlined),
+            &|| dependent(&list, ours),
+            &|| dependent(&list, std),
+            &|| dependent(&list, inlined),
+        ],
+    );
     print!("{:20}", row.name);
     for part in times.chunks(3) {
         let ratio = part[0] / part[1];
@@ -170,32 +182,40 @@ fn heading(name: &str) {
     println!("{:>9}", "limit");
 }
 
-pub fn run() -> ExitCode {
+pub fn run(pairs: usize) -> ExitCode {
     println!(
-        "ns for one call: the median of {REPEATS} runs over {PAIRS} pairs. ratio: ours / std. limit: the most for the"
+        "ns for one call: the median of {} runs over {pairs} pairs. ratio: ours / std. limit: the most for the ratio,",
+        repeats(pairs)
     );
-    println!("ratio, and whether the throughput and the dependent calls meet it.\n");
+    println!("and whether the throughput and the dependent calls meet it.\n");
     println!("{:20}{:^36}{:^36}", "", "throughput", "dependent");
     heading("hypot");
     for row in &HYPOT {
-        measure(row, library::hypot, |x, y| std_hypot(x, y), f32::hypot);
+        measure(
+            row,
+            pairs,
+            library::hypot,
+            |x, y| std_hypot(x, y),
+            f32::hypot,
+        );
     }
     heading("rem_euclid");
     for row in &REM_EUCLID {
         measure(
             row,
+            pairs,
             library::rem_euclid,
             |x, y| std_rem_euclid(x, y),
             f32::rem_euclid,
         );
     }
-    let mut random = Random::new(1);
-    let pairs: Vec<Pair> = (0..PAIRS)
-        .map(|_| hypot_inputs::field_distances(&mut random))
-        .collect();
-    let [alone, waiting] = in_turn([&|| throughput(&pairs, |x, y| sum(x, y)), &|| {
-        dependent(&pairs, |x, y| sum(x, y))
-    }]);
+    let list = drawn(pairs, hypot_inputs::field_distances);
+    let [alone, waiting] = in_turn(
+        pairs,
+        [&|| throughput(&list, |x, y| sum(x, y)), &|| {
+            dependent(&list, |x, y| sum(x, y))
+        }],
+    );
     println!(
         "\nThe loop and a call of one addition, which are part of each time: {alone:.2}, dependent {waiting:.2}"
     );

@@ -175,7 +175,7 @@ struct Differences {
     first: Vec<Difference>,
 }
 
-const SHOWN: usize = 5;
+const SHOWN: usize = 3;
 
 impl Differences {
     fn note(&mut self, difference: Difference) {

@@ -6,13 +6,14 @@ use crate::inputs::{
 };
 use crate::random::Random;
 
-pub const CLASSES: [Class; 21] = [
+pub const CLASSES: [Class; 22] = [
     drawn("random bits", 6, random_bits),
     drawn("close exponents", 6, close_exponents),
     drawn("ties", 4, ties),
     drawn("near-ties", 6, near_ties),
-    drawn("near-ties, best of 32", 2, nearest_of_many),
+    drawn("near-ties, best of 32", 2, best_of_32),
     drawn("near-ties, first halfway point", 4, first_halfway),
+    drawn("near-ties, on the field", 3, near_ties_on_the_field),
     drawn("two subnormals", 4, two_subnormals),
     drawn("one subnormal", 4, one_subnormal),
     drawn("exponent gaps 0 to 30", 4, gaps),
@@ -114,12 +115,15 @@ impl Aim {
             .abs_diff(u128::from(self.h * self.h - 4 * self.a * self.a) << 60)
     }
 
-    /// At a random exponent, the rounded leg moved by some neighbours.
-    fn pair(&self, random: &mut Random, by: i64) -> Pair {
-        let e = random.within(0, 253);
+    /// The exponent e, and the rounded leg moved by some neighbours.
+    fn pair(&self, random: &mut Random, e: i64, by: i64) -> Pair {
         let (p, q) = (magnitude_of(self.a, e), magnitude_of(self.root, e - 31));
         shuffled(random, p, moved(q, by))
     }
+}
+
+fn any_exponent(random: &mut Random) -> i64 {
+    random.within(0, 253)
 }
 
 fn significand(random: &mut Random) -> u64 {
@@ -134,23 +138,39 @@ fn steps(random: &mut Random, a: u64, length: u32) -> u64 {
 fn near_ties(random: &mut Random) -> Pair {
     let a = significand(random);
     let length = random.within(1, 23) as u32;
-    let by = random.within(-2, 2);
-    let steps = steps(random, a, length);
-    aim(a, steps).pair(random, by)
+    let aim = aim(a, steps(random, a, length));
+    let (e, by) = (any_exponent(random), random.within(-2, 2));
+    aim.pair(random, e, by)
 }
 
-fn nearest_of_many(random: &mut Random) -> Pair {
+fn best_of(random: &mut Random, tries: u32) -> Aim {
     let length = random.within(1, 23) as u32;
-    let mut best: Option<Aim> = None;
-    for _ in 0..32 {
+    let mut try_once = || {
         let a = significand(random);
-        let steps = steps(random, a, length);
-        let next = aim(a, steps);
-        if best.as_ref().is_none_or(|old| next.miss() < old.miss()) {
-            best = Some(next);
+        aim(a, steps(random, a, length))
+    };
+    let first = try_once();
+    (1..tries).fold(first, |best, _| {
+        let next = try_once();
+        if next.miss() < best.miss() {
+            next
+        } else {
+            best
         }
-    }
-    best.expect("the best of 32").pair(random, 0)
+    })
+}
+
+fn best_of_32(random: &mut Random) -> Pair {
+    let aim = best_of(random, 32);
+    let e = any_exponent(random);
+    aim.pair(random, e, 0)
+}
+
+/// The greater leg is between 2^-6 and 2^7, as the differences of coordinates are.
+fn near_ties_on_the_field(random: &mut Random) -> Pair {
+    let aim = best_of(random, 4);
+    let e = random.within(120, 132);
+    aim.pair(random, e, 0)
 }
 
 /// The other leg is about the least one for which the root is not rounded to x.
@@ -162,7 +182,8 @@ fn first_halfway(random: &mut Random) -> Pair {
         1 => -by,
         _ => random.within(-2, 2),
     };
-    aim(a, 0).pair(random, by)
+    let e = any_exponent(random);
+    aim(a, 0).pair(random, e, by)
 }
 
 fn one_subnormal(random: &mut Random) -> Pair {

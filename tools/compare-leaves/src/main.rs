@@ -15,9 +15,11 @@ use std::env;
 use std::process::ExitCode;
 
 const USAGE: &str = "usage: compare-leaves compare [COUNT] [SEED]
-       compare-leaves bench
+       compare-leaves bench [PAIRS]
 
-COUNT: about how many inputs each of the two functions gets (10000000 if not given); SEED: a whole number (1)";
+COUNT: about how many inputs each of the two functions gets (10000000 if not given)
+SEED: a whole number that determines the inputs (1)
+PAIRS: how many pairs of each class are called over and over (4096)";
 
 fn main() -> ExitCode {
     let words: Vec<String> = env::args().skip(1).collect();
@@ -32,7 +34,11 @@ fn main() -> ExitCode {
                 return compare::run(count, seed);
             }
         }
-        Some(&"bench") if words.len() == 1 => return bench::run(),
+        Some(&"bench") if words.len() <= 2 => {
+            if let Some(pairs @ 1..=10_000_000) = number(1, 4096) {
+                return bench::run(pairs as usize);
+            }
+        }
         _ => {}
     }
     eprintln!("{USAGE}");

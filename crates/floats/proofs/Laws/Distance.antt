@@ -20,7 +20,7 @@ use Rattle.floats.specs.Hypot.{unitsOf, halfway, past, nearestRoot, squa
 use Rattle.floats.specs.Nearest.{After, Nearest}
 use Rattle.floats.proofs.Root.Units.{units-lt, units-le}
 use Rattle.floats.proofs.Root.Seek.{past-yes, sq-lt, sq-le, sq-twice}
-use Rattle.floats.proofs.Root.Laws.{past-says, past-said, not-past-said, past-before, nearest-law, nearest-unique}
+use Rattle.floats.proofs.Root.Nearest.{past-says, past-said, not-past-said, past-before, nearest-law, nearest-unique}
 use Rattle.floats.proofs.Root.Values.{shape, root-le, units-are}
 use Rattle.floats.proofs.Laws.Signs.{hypot-comm}
 use Rattle.floats.proofs.Laws.Height.{fin-height, height-top, sign-off}

@@ -11,7 +11,7 @@ use lib.Ieee.{Float, nan, inf, fin, binary32, ofBits, isNan}
 use Rattle.floats.specs.Hypot.{unitsOf, halfway, square, nearestRoot, hypot}
 use Rattle.floats.proofs.Root.Units.{units-lt}
 use Rattle.floats.proofs.Root.Seek.{sq-lt, sq-twice}
-use Rattle.floats.proofs.Root.Laws.{nearest-unique}
+use Rattle.floats.proofs.Root.Nearest.{nearest-unique}
 use Rattle.floats.proofs.Root.Values.{Shape, finite, left-infinite, right-infinite}
 use Rattle.floats.proofs.Root.Whole.{far}
 

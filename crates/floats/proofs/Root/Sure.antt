@@ -16,7 +16,7 @@ use lib.Ieee.Positive.{positive, num, den, den-pos, own-value, first-pos, positi
 use lib.Ieee.Bits.{ofBits-toBits, toBits-lt}
 use Rattle.floats.specs.Hypot.{unitsOf, halfway, square, nearestRoot, hypot}
 use Rattle.floats.proofs.Root.Values.{finite-value, shape, finite}
-use Rattle.floats.proofs.Root.Laws.{nearest-unique}
+use Rattle.floats.proofs.Root.Nearest.{nearest-unique}
 use Rattle.floats.proofs.Root.Order.{is-true, lt-not-le, round-lt}
 use Rattle.floats.proofs.Root.Plus.{Plus, alike, square-plus, round-plus}
 use Rattle.floats.proofs.Root.Sums.{add-at, square-value}

@@ -9,12 +9,8 @@ use native.Mathlib.Omega.{arith}
 use lib.Pow.{pow-pos}
 use lib.Dec.{T, T-not, eqb, eqb→eq}
 use borrow.Author.Tests.{eq-eqb, ne-eqb}
-use Rattle.floats.specs.Hypot.{unitsOf, halfway, beyond, past, seek, nearestRoot, square, magnitude, hypot}
-use lib.IntN.{ℤ}
-use lib.Ieee.{fin, binary32, toBits, ofBits, isNan, nanBits}
-use lib.Ieee.Bits.{toBits-ofBits, nanBits-is}
+use Rattle.floats.specs.Hypot.{unitsOf, halfway, beyond, past, seek, nearestRoot}
 use Rattle.floats.proofs.Comparing.{by-order}
-use Rattle.floats.proofs.Root.Values.{root-no-nan, root-le}
 use Rattle.floats.specs.Nearest.{After, Before, Nearest}
 use Rattle.floats.proofs.Root.Units.{units-lt}
 use Rattle.floats.proofs.Root.Seek.{Turns, past-yes, past-no, past-tie, seek-finds, sq-lt}
@@ -196,15 +192,3 @@ nearest-unique n b p = go (nearestRoot n) (differ n b (nearestRoot n) p (nearest
   where
     go : (r : ℕ) → (b < r → ⊥) → (r < b → ⊥) → b ≡ r
     go r f g = omega arith
-
--- ---- `hypot` of two finite values, by the pattern of its result
-pub hypot-law : (s t : Bool) (m k : ℕ) (e d : ℤ) → Nearest (square (magnitude m e) + square (magnitude k d)) (toBits binary32 (hypot (fin s m e) (fin t k d)))
-unfolding hypot
-hypot-law s t m k e d =
-    let n = square (magnitude m e) + square (magnitude k d) in
-    subst (λ (b : ℕ). Nearest n b)
-    (sym (toBits-ofBits binary32 (nearestRoot n) (below (nearestRoot n) (root-le n)) (subst (λ (z : Bool). T (not z)) (nanBits-is binary32 (nearestRoot n)) (root-no-nan n (nearestRoot n) refl))))
-    (nearest-law n)
-  where
-    below : (r : ℕ) → r ≤ 0x7f80_0000 → r < 4294967296
-    below r h = omega arith
