@@ -1,4 +1,4 @@
-//! Links libreferee_c.a: from the folder REFEREE_LIB_DIR if it is set, otherwise from the repository's target/staticlib.
+//! Links libreferee_c.a: from the folder REFEREE_LIB_DIR if that is set, else from the repository's target/staticlib.
 
 use std::env;
 use std::path::{Path, PathBuf};

@@ -41,8 +41,8 @@ fn throughput(pairs: &[Pair], f: impl Fn(f32, f32) -> f32) -> f64 {
     start.elapsed().as_secs_f64()
 }
 
-/// Calls each of which waits for the one before: bits of its answer go into the next input, through a mask that is zero,
-/// which the compiler cannot know.
+/// Calls each of which waits for the one before: bits of its answer go into the next input, through a mask that is
+/// zero, which the compiler cannot know.
 fn dependent(pairs: &[Pair], f: impl Fn(f32, f32) -> f32) -> f64 {
     let mask = black_box(0);
     let start = Instant::now();
@@ -63,8 +63,8 @@ fn repeats(pairs: usize) -> usize {
     (CALLS / pairs).max(100)
 }
 
-/// The medians of several measurements, in ns for one call. They are taken in turn, so that a slow moment of the machine
-/// meets all of them.
+/// The medians of several measurements, in ns for one call. They are taken in turn, so that a slow moment of the
+/// machine meets all of them.
 fn in_turn<const N: usize>(pairs: usize, measurements: [&dyn Fn() -> f64; N]) -> [f64; N] {
     let mut times = [const { Vec::new() }; N];
     for repeat in 0..repeats(pairs) {
@@ -210,12 +210,9 @@ pub fn run(pairs: usize) -> ExitCode {
         );
     }
     let list = drawn(pairs, hypot_inputs::field_distances);
-    let [alone, waiting] = in_turn(
-        pairs,
-        [&|| throughput(&list, |x, y| sum(x, y)), &|| {
-            dependent(&list, |x, y| sum(x, y))
-        }],
-    );
+    let alone = || throughput(&list, |x, y| sum(x, y));
+    let waiting = || dependent(&list, |x, y| sum(x, y));
+    let [alone, waiting] = in_turn(pairs, [&alone, &waiting]);
     println!(
         "\nThe loop and a call of one addition, which are part of each time: {alone:.2}, dependent {waiting:.2}"
     );

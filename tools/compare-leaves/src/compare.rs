@@ -5,6 +5,7 @@ use crate::inputs::{Class, Pair, total_weight};
 use crate::wrong::{self, Wrong};
 use crate::{hypot_inputs, library, rem_inputs};
 use std::fmt;
+use std::mem;
 use std::process::ExitCode;
 
 struct Function {
@@ -178,10 +179,12 @@ struct Differences {
 const SHOWN: usize = 3;
 
 impl Differences {
-    fn note(&mut self, difference: Difference) {
-        self.count += 1;
-        if self.first.len() < SHOWN {
-            self.first.push(difference);
+    fn note(&mut self, found: Option<Difference>) {
+        if let Some(difference) = found {
+            self.count += 1;
+            if self.first.len() < SHOWN {
+                self.first.push(difference);
+            }
         }
     }
 }
@@ -192,161 +195,177 @@ struct Kind {
     first: Difference,
 }
 
-/// True if nothing failed.
-fn compare(function: &Function, count: u64, seed: u64) -> bool {
-    let name = function.name;
-    let mut failures = Vec::new();
-    for &(x, y, answer) in function.known {
-        for found in [Some((function.exact)(x, y)), (function.again)(x, y)] {
-            if let Some(found) = found.filter(|&found| !same(found, answer)) {
-                let difference = Difference {
-                    name,
-                    pair: (x, y),
-                    got: found,
-                    exact: answer,
-                };
-                failures.push(format!(
-                    "an exact way differs from a known answer: {difference}"
-                ));
+/// What the inputs of one function have shown.
+struct Report {
+    function: &'static Function,
+    /// Between the two ways to the exact answer, and at how many inputs both have one.
+    ways: Differences,
+    twice: u64,
+    /// Std's differences by kind, and the first in each class.
+    kinds: Vec<Kind>,
+    std_first: Vec<(&'static str, Difference)>,
+    /// Of each deliberately wrong implementation.
+    wrong: Vec<Differences>,
+    failures: Vec<String>,
+}
+
+impl Report {
+    fn new(function: &'static Function) -> Report {
+        Report {
+            function,
+            ways: Differences::default(),
+            twice: 0,
+            kinds: Vec::new(),
+            std_first: Vec::new(),
+            wrong: function
+                .wrong
+                .iter()
+                .map(|_| Differences::default())
+                .collect(),
+            failures: Vec::new(),
+        }
+    }
+
+    fn against(&self, pair: Pair, got: f32, exact: f32) -> Option<Difference> {
+        let name = self.function.name;
+        (!same(got, exact)).then_some(Difference {
+            name,
+            pair,
+            got,
+            exact,
+        })
+    }
+
+    fn fail(&mut self, what: &str, differences: &[Difference]) {
+        self.failures.extend(
+            differences
+                .iter()
+                .map(|difference| format!("{what}: {difference}")),
+        );
+    }
+
+    fn known_answers(&mut self) {
+        for &(x, y, answer) in self.function.known {
+            let ways = [
+                Some((self.function.exact)(x, y)),
+                (self.function.again)(x, y),
+            ];
+            for found in ways.into_iter().flatten() {
+                let difference = self.against((x, y), found, answer);
+                self.fail("an exact way and a known answer", difference.as_slice());
             }
         }
     }
 
-    println!("{name}, seed {seed}");
-    println!(
-        "{:32}{:>12}{:>16}{:>12}",
-        "class", "inputs", "library differs", "std differs"
-    );
-    let weight = total_weight(function.classes);
-    let mut ways = Differences::default();
-    let mut twice = 0;
-    let mut wrong: Vec<Differences> = function
-        .wrong
-        .iter()
-        .map(|_| Differences::default())
-        .collect();
-    let mut kinds: Vec<Kind> = Vec::new();
-    let mut std_first = Vec::new();
-    let (mut inputs, mut ours_differs, mut std_differs) = (0, 0, 0);
-    for class in function.classes {
-        let (mut here, mut ours, mut std) = (0, Differences::default(), Differences::default());
-        class.each(weight, count, seed, |pair| {
-            let (x, y) = pair;
-            here += 1;
-            let exact = (function.exact)(x, y);
-            let against = |got| {
-                if same(got, exact) {
-                    None
-                } else {
-                    Some(Difference {
-                        name,
-                        pair,
-                        got,
-                        exact,
-                    })
-                }
-            };
-            if let Some(again) = (function.again)(x, y) {
-                twice += 1;
-                against(again)
-                    .into_iter()
-                    .for_each(|difference| ways.note(difference));
+    fn input(&mut self, pair: Pair, ours: &mut Differences, std: &mut Differences) {
+        let (function, (x, y)) = (self.function, pair);
+        let exact = (function.exact)(x, y);
+        if let Some(again) = (function.again)(x, y) {
+            self.twice += 1;
+            self.ways.note(self.against(pair, again, exact));
+        }
+        ours.note(self.against(pair, (function.ours)(x, y), exact));
+        let by_std = self.against(pair, (function.std)(x, y), exact);
+        std.note(by_std);
+        if let Some(difference) = by_std {
+            let name = difference.kind();
+            match self.kinds.iter_mut().find(|kind| kind.name == name) {
+                Some(kind) => kind.count += 1,
+                None => self.kinds.push(Kind {
+                    name,
+                    count: 1,
+                    first: difference,
+                }),
             }
-            if let Some(difference) = against((function.ours)(x, y)) {
-                ours.note(difference);
-            }
-            if let Some(difference) = against((function.std)(x, y)) {
-                std.note(difference);
-                let kind = difference.kind();
-                match kinds.iter_mut().find(|known| known.name == kind) {
-                    Some(known) => known.count += 1,
-                    None => kinds.push(Kind {
-                        name: kind,
-                        count: 1,
-                        first: difference,
-                    }),
-                }
-            }
-            for (&(_, f), differences) in function.wrong.iter().zip(&mut wrong) {
-                against(f(x, y))
-                    .into_iter()
-                    .for_each(|difference| differences.note(difference));
-            }
-        });
-        println!(
-            "{:32}{here:>12}{:>16}{:>12}",
-            class.name, ours.count, std.count
-        );
-        failures.extend(
-            ours.first
-                .iter()
-                .map(|difference| format!("the library: {difference}")),
-        );
-        std_first.extend(
-            std.first
-                .first()
-                .map(|&difference| (class.name, difference)),
-        );
-        inputs += here;
-        ours_differs += ours.count;
-        std_differs += std.count;
+        }
+        for (i, &(_, wrong)) in function.wrong.iter().enumerate() {
+            let difference = self.against(pair, wrong(x, y), exact);
+            self.wrong[i].note(difference);
+        }
     }
-    println!(
-        "{:32}{inputs:>12}{ours_differs:>16}{std_differs:>12}",
-        "all"
-    );
 
-    println!(
-        "\nthe exact answer was found in two ways at {twice} inputs, and they differ at {}",
-        ways.count
-    );
-    failures.extend(
-        ways.first
-            .iter()
-            .map(|difference| format!("the exact ways: {difference}")),
-    );
+    fn inputs(&mut self, count: u64, seed: u64) {
+        let row = |name: &str, inputs: u64, ours: u64, std: u64| {
+            println!("{name:32}{inputs:>12}{ours:>16}{std:>12}");
+        };
+        println!(
+            "{:32}{:>12}{:>16}{:>12}",
+            "class", "inputs", "library differs", "std differs"
+        );
+        let weight = total_weight(self.function.classes);
+        let mut all = [0; 3];
+        for class in self.function.classes {
+            let (mut inputs, mut ours, mut std) =
+                (0, Differences::default(), Differences::default());
+            class.each(weight, count, seed, |pair| {
+                inputs += 1;
+                self.input(pair, &mut ours, &mut std);
+            });
+            row(class.name, inputs, ours.count, std.count);
+            self.fail("the library", &ours.first);
+            self.std_first
+                .extend(std.first.first().map(|&first| (class.name, first)));
+            for (sum, part) in all.iter_mut().zip([inputs, ours.count, std.count]) {
+                *sum += part;
+            }
+        }
+        row("all", all[0], all[1], all[2]);
+    }
 
-    if kinds.is_empty() {
-        println!("\nstd differs nowhere");
-    } else {
+    fn print_ways(&mut self) {
+        let (twice, differ) = (self.twice, self.ways.count);
+        println!(
+            "\nthe exact answer was found in two ways at {twice} inputs, and they differ at {differ}"
+        );
+        let first = mem::take(&mut self.ways.first);
+        self.fail("the two exact ways", &first);
+    }
+
+    fn print_std(&self) {
+        if self.kinds.is_empty() {
+            println!("\nstd differs nowhere");
+            return;
+        }
         println!("\nstd's differences by kind, with the first of each:");
-        for kind in &kinds {
+        for kind in &self.kinds {
             println!("  {}: {}\n    {}", kind.name, kind.count, kind.first);
         }
         println!("std's first difference in each class that has one:");
-        for (class, difference) in &std_first {
+        for (class, difference) in &self.std_first {
             println!("  {class}\n    {difference}");
         }
     }
 
-    println!("\ndeliberately wrong ones, over the same inputs:");
-    println!("{:32}{:>12}", "what is wrong", "differs");
-    for (&(what, _), differences) in function.wrong.iter().zip(&wrong) {
-        println!("{what:32}{:>12}", differences.count);
-        if differences.count == 0 {
-            failures.push(format!(
-                "no input tells a wrong one from the exact answer: {what}"
-            ));
+    fn print_wrong(&mut self) {
+        println!("\ndeliberately wrong ones, over the same inputs:");
+        println!("{:32}{:>12}", "what is wrong", "differs");
+        for (&(what, _), differences) in self.function.wrong.iter().zip(&self.wrong) {
+            println!("{what:32}{:>12}", differences.count);
+            if differences.count == 0 {
+                self.failures.push(format!(
+                    "no input tells a wrong one from the exact answer: {what}"
+                ));
+            }
         }
     }
-
-    println!();
-    for failure in &failures {
-        println!("FAILED {failure}");
-    }
-    failures.is_empty()
 }
 
 pub fn run(count: u64, seed: u64) -> ExitCode {
-    let mut fine = true;
+    let mut failed = false;
     for function in &FUNCTIONS {
-        fine &= compare(function, count, seed);
+        println!("{}, seed {seed}", function.name);
+        let mut report = Report::new(function);
+        report.known_answers();
+        report.inputs(count, seed);
+        report.print_ways();
+        report.print_std();
+        report.print_wrong();
+        println!();
+        for failure in &report.failures {
+            println!("FAILED {failure}");
+        }
+        failed |= !report.failures.is_empty();
     }
-    if fine {
-        println!("compare: ok");
-        ExitCode::SUCCESS
-    } else {
-        println!("compare: failed");
-        ExitCode::FAILURE
-    }
+    println!("compare: {}", if failed { "failed" } else { "ok" });
+    ExitCode::from(u8::from(failed))
 }

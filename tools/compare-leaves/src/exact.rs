@@ -1,9 +1,9 @@
 //! The exact answers, decided by whole numbers alone. Each function has two ways to its answer, which have little in
 //! common, so that a slip in one of them shows.
 //!
-//! A magnitude is the pattern of an f32 without its sign bit. A unit is 2^-149, the least positive f32: every finite f32 is
-//! a whole number of units. The magnitudes are in the order of their values, and 0x7f80_0000, the pattern of infinity,
-//! stands where 2^128 would.
+//! A magnitude is the pattern of an f32 without its sign bit. A unit is 2^-149, the least positive f32: every finite
+//! f32 is a whole number of units. The magnitudes are in the order of their values, and 0x7f80_0000, the pattern of
+//! infinity, stands where 2^128 would.
 
 use crate::big::Big;
 use std::cmp::Ordering;
@@ -30,7 +30,8 @@ impl Ties {
         }
     }
 
-    /// Whether an answer goes to the upper neighbour; `order` compares it with the point halfway, `odd` is the lower one's.
+    /// Whether an answer goes to the upper neighbour: `order` compares it with the point halfway, and `odd` says
+    /// whether the lower neighbour is odd.
     fn above(self, order: Ordering, odd: bool) -> bool {
         match order {
             Ordering::Greater => true,
@@ -54,7 +55,7 @@ pub fn units(p: u32) -> (u64, u32) {
     }
 }
 
-/// (h, e): p and the next magnitude add up to h * 2^e units, which is twice the point halfway. The next one is 2^e higher.
+/// (h, e): p and the next magnitude, which is 2^e units higher, add up to h * 2^e units: twice the point halfway.
 fn twice_halfway(p: u32) -> (u64, u32) {
     let (m, e) = units(p);
     (2 * m + 1, e)
