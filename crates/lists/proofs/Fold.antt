@@ -1,7 +1,9 @@
 -- What a loop that carries a state keeps: after i turns the state is `foldTo i f s`. Assumes nothing.
 use mathlib.Core.Path.{_≡_, refl, sym, ap, _∙_}
 use Prim.Native.Nat.{ℕ, zero, suc, _+_, _≤_, _<_}
-use native.Mathlib.Nat.{le-antisymm, le-refl, le-step}
+use mathlib.Core.Logic.{_⊎_, inl, inr}
+use native.Mathlib.Nat.{le-antisymm, le-refl, le-step, eq-or-lt-of-le, le-of-suc-le-suc}
+use native.Mathlib.Omega.{arith}
 use native.Mathlib.Numerals.{add-one}
 use Rattle.lists.specs.Fold.{foldTo}
 
@@ -31,3 +33,15 @@ module _ {S : Type 0} where
   unfolding foldTo
   fold-keeps P f s zero b t = b
   fold-keeps P f s (suc n) b t = t n (foldTo n f s) (le-refl (suc n)) (fold-keeps P f s n b (λ k a h. t k a (le-step h)))
+
+  -- steps that change nothing from j on
+  pub fold-quiet : (f : ℕ → S → S) (s : S) (j n : ℕ) → j ≤ n → ((k : ℕ) → j ≤ k → k < n → f k (foldTo j f s) ≡ foldTo j f s) → foldTo n f s ≡ foldTo j f s
+  fold-quiet f s j zero h e = ap (λ (z : ℕ). foldTo z f s) (omega arith)
+  fold-quiet f s j (suc n) h e = go (eq-or-lt-of-le h) (fold-quiet f s j n)
+    where
+      grow : foldTo (suc n) f s ≡ f n (foldTo n f s)
+      grow = unfold foldTo in refl
+
+      go : (j ≡ suc n) ⊎ (j < suc n) → (j ≤ n → ((k : ℕ) → j ≤ k → k < n → f k (foldTo j f s) ≡ foldTo j f s) → foldTo n f s ≡ foldTo j f s) → foldTo (suc n) f s ≡ foldTo j f s
+      go (inl g) ih = ap (λ (z : ℕ). foldTo z f s) (sym g)
+      go (inr g) ih = grow ∙ ap (f n) (ih (le-of-suc-le-suc g) (λ k a b. e k a (le-step b))) ∙ e n (le-of-suc-le-suc g) (le-refl (suc n))

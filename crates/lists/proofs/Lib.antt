@@ -2,5 +2,6 @@ pub mod Table
 pub mod Fold
 pub mod Gather
 pub mod Put
+pub mod Every
 pub mod Part
 pub mod Lengths

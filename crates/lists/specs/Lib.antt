@@ -2,3 +2,4 @@ pub mod Table
 pub mod Fold
 pub mod Gather
 pub mod Put
+pub mod Every
