@@ -1,0 +1,5 @@
+pub mod CandidatesWalk
+pub mod CandidatesFill
+pub mod CandidatesList
+pub mod CandidatesEnd
+pub mod CasesCandidates

@@ -1,0 +1,15 @@
+use borrow.Author.Needs.{needs}
+use Rattle.geometry.proofs.is_outside_field.Statement.{statement}
+use Rattle.geometry.proofs.is_outside_field.Tie as tie
+
+abs-requires : tie.Need-abs-requires
+abs-requires c κs = search needs
+
+abs-requires-2 : tie.Need-abs-requires-2
+abs-requires-2 c κs = search needs
+
+returns : tie.Need-returns
+returns c = cc
+
+pub is-outside-field-spec : {M : Type 1} → statement M
+is-outside-field-spec = tie.close (tie.spec abs-requires abs-requires-2 returns)

@@ -1,0 +1,34 @@
+use Rattle.geometry.specs.Geometry.{marginsOf}
+use borrow.Author.Needs.{needs}
+use Rattle.geometry.proofs.margins_of.Statement.{statement}
+use Rattle.geometry.proofs.margins_of.Tie as tie
+
+strip-margin-requires : tie.Need-strip-margin-requires
+strip-margin-requires c κs = search needs
+
+strip-margin-requires-2 : tie.Need-strip-margin-requires-2
+strip-margin-requires-2 c κs = search needs
+
+min-requires : tie.Need-min-requires
+min-requires c κs = search needs
+
+min-requires-2 : tie.Need-min-requires-2
+min-requires-2 c κs = search needs
+
+min-requires-3 : tie.Need-min-requires-3
+min-requires-3 c κs = search needs
+
+returns : tie.Need-returns
+unfolding marginsOf
+returns c = cc
+
+pub margins-of-spec : {M : Type 1} → statement M
+margins-of-spec =
+    tie.close
+    (tie.spec
+    strip-margin-requires
+    strip-margin-requires-2
+    min-requires
+    min-requires-2
+    min-requires-3
+    returns)

@@ -1,0 +1,34 @@
+use Rattle.positioning.specs.Positioning.{attackVerdict}
+use borrow.Author.Needs.{needs}
+use Rattle.positioning.proofs.attack_verdict.Statement.{statement}
+use Rattle.positioning.proofs.attack_verdict.Tie as tie
+
+is-set-requires : tie.Need-is-set-requires
+is-set-requires c κs = search needs
+
+hypot-requires : tie.Need-hypot-requires
+hypot-requires c κs = search needs
+
+reaches-requires : tie.Need-reaches-requires
+reaches-requires c κs = search needs
+
+reaches-requires-2 : tie.Need-reaches-requires-2
+reaches-requires-2 c κs = search needs
+
+attack-table-requires : tie.Need-attack-table-requires
+attack-table-requires c κs = search needs
+
+returns : tie.Need-returns
+unfolding attackVerdict
+returns c = cc
+
+pub attack-verdict-spec : {M : Type 1} → statement M
+attack-verdict-spec =
+    tie.close
+    (tie.spec
+    is-set-requires
+    hypot-requires
+    reaches-requires
+    reaches-requires-2
+    attack-table-requires
+    returns)
