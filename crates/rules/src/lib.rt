@@ -21,3 +21,6 @@ pub use positioning::Positioning;
 pub use positioning::is_avoidance_region_active;
 pub use positioning::is_illegally_positioned;
 pub use positioning::is_in_avoidance_region;
+pub use selection::determine_kicking_player;
+pub use selection::goal_area_excess;
+pub use selection::players_on_field;

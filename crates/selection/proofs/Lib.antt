@@ -1,0 +1,11 @@
+pub mod Counting
+pub mod Ranking
+pub mod LeastKey
+pub mod Lexical
+pub mod ExcessKeys
+pub mod KickerKeys
+pub mod CountsLaws
+pub mod ExcessLaws
+pub mod KickerLaws
+pub mod CasesExcess
+pub mod CasesKicker
