@@ -6,6 +6,7 @@ pub mod Nearest
 pub mod Rounds
 pub mod Squares
 pub mod Small
+pub mod Tiny
 pub mod Whole
 pub mod Far
 pub mod Order

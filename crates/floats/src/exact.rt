@@ -1,6 +1,7 @@
 // The exact path of hypot, in whole numbers: a pattern with the sign's bit off stands for e exponent fields and a significand.
 ghost use mathlib.Core.Path.{_≡_};
 ghost use Prim.Native.Nat.{ℕ, _+_, _*_, _-_, _/_, _^_, _≤_, _<_, min, max};
+ghost use lib.Dec.{leb};
 ghost use Rattle.floats.specs.Hypot.{unitsOf, square, nearestRoot};
 ghost use Rattle.floats.specs.Hypot as Spec;
 ghost use Rattle.floats.specs.Steps.{Flag, Rooted, Packed};
@@ -13,10 +14,19 @@ pub(crate) fn larger(p: u32, q: u32) -> u32
 }
 
 // The smaller of two patterns.
-pub(crate) fn smaller(p: u32, q: u32) -> u32
+fn smaller(p: u32, q: u32) -> u32
     ensures { λ r. ⌜ r ≡ min p q ⌝ }
 {
     if q <= p { q } else { p }
+}
+
+// Whether two patterns with the sign's bit off are 14 exponent fields or more apart. A difference that wraps serves both orders in one comparison.
+pub(crate) fn far_apart(p: u32, q: u32) -> bool
+    requires { ⌜ (p < 0x8000_0000) × (q < 0x8000_0000) ⌝ }
+    ensures { λ r. ⌜ r ≡ leb 0x0700_0000 (max p q - min p q) ⌝ }
+{
+    let d = std::num::wrapping_sub_u32(p, q);
+    0x0dff_fffe < std::num::wrapping_add_u32(d, 0x06ff_ffff)
 }
 
 // The bit pattern of x, and 0 for a NaN.
@@ -126,6 +136,20 @@ fn nearest(p: u32, q: u32) -> u32
     }
     let r = rooted((p - e * 8388608) as u64, (q - g * 8388608) as u64, 2 * d);
     packed(e, r.t, r.x)
+}
+
+// The same for two small patterns: each is its own magnitude in units of the smallest value, so that the nearest whole number to the root is the pattern.
+pub(crate) fn nearest_whole(p: u32, q: u32) -> u32
+    requires { ⌜ p + q ≤ 0x0100_0000 ⌝ }
+    ensures { λ r. ⌜ r ≡ nearestRoot (square (unitsOf p) + square (unitsOf q)) ⌝ }
+{
+    if p + q == 0 {
+        return 0; // as `root` would find, but sooner
+    }
+    let a = p as u64;
+    let b = q as u64;
+    let t = root(4 * (a * a + b * b));
+    ((t + 1) / 2) as u32
 }
 
 // hypot of any two floats.

@@ -156,7 +156,8 @@ pub fn rem_euclid(x: f32, y: f32) -> f32
     ensures { λ r. ⌜ r ≡ Spec.remEuclid x y ⌝ }
 {
     let r = x % y;
-    if r < 0.0 { r + abs(y) } else { r }
+    let s = r + abs(y); // before the test, so that it is compiled without a branch
+    if r < 0.0 { s } else { r }
 }
 
 // The sum of the squares, rounded once: the squares of f32s are exact in f64.
@@ -192,25 +193,28 @@ pub fn hypot(x: f32, y: f32) -> f32
         if y == y {
             let p = f32::to_bits(x) % 0x8000_0000;
             let q = f32::to_bits(y) % 0x8000_0000;
-            let hi = exact::larger(p, q);
-            let lo = exact::smaller(p, q);
-            if 0x0700_0000 <= hi - lo {
-                return f32::from_bits(hi);
+            if exact::far_apart(p, q) {
+                return f32::from_bits(exact::larger(p, q));
+            }
+            // Past this sum one of the two is a normal number, and so is the root.
+            if p + q <= 0x0100_0000 {
+                return f32::from_bits(exact::nearest_whole(p, q));
             }
             let s = sum_of_squares(x, y);
             let r = estimate(s);
             let t = r * r;
             if s * 0.9999999999708962 < t {
                 if t < s * 1.0000000000291038 {
-                    let b = std::num::wrapping_add_u64(f64::to_bits(r), 0x1000_0000);
-                    let k = b / 0x2000_0000;
-                    let m = b % 0x2000_0000;
-                    if 150000 <= m {
-                        if m <= 536720912 {
-                            if 0x1_c080_0000 < k {
-                                if k < 0x2_3f80_0000 {
-                                    return f32::from_bits((k - 0x1_c000_0000) as u32);
-                                }
+                    // r's pattern, counted from where those of the f32s start, and half a step, so that k is the nearest.
+                    let b = std::num::wrapping_add_u64(f64::to_bits(r), 0xc800_0000_1000_0000);
+                    // How far r is past the point halfway below it, times 8 to fill the u32, so that the two tests are compiled as one: 150000 or more, and as much short of the next point.
+                    let m = (b % 0x2000_0000 * 8) as u32;
+                    if 1_200_000 <= m {
+                        if m <= 4_293_767_296 {
+                            // The largest f32 is left out, since a bound of 0x7f80_0000 is compiled to slower code.
+                            let k = b / 0x2000_0000;
+                            if k < 0x7f7f_ffff {
+                                return f32::from_bits(k as u32);
                             }
                         }
                     }

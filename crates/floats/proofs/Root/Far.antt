@@ -65,24 +65,24 @@ largest′ x y p q s t h o g =
           ∙ finite x y p q s t (lt-of-le-of-lt o l) l
     ]
 
-pub far-apart : (x y : Float) (p q hi lo : ℕ) → Shape x p → Shape y q → p ≤ 0x7f80_0000 → q ≤ 0x7f80_0000 → hi ≡ max p q → lo ≡ min p q → 0x0700_0000 ≤ hi - lo → ofBits binary32 hi ≡ hypot x y
-far-apart x y p q hi lo s t h k a b g = go (decLe q p)
+pub far-apart : (x y : Float) (p q hi : ℕ) → Shape x p → Shape y q → p ≤ 0x7f80_0000 → q ≤ 0x7f80_0000 → hi ≡ max p q → 0x0700_0000 ≤ max p q - min p q → ofBits binary32 hi ≡ hypot x y
+far-apart x y p q hi s t h k a g = go (decLe q p)
   where
-    left : (p q hi lo : ℕ) → hi ≡ max p q → lo ≡ min p q → 0x0700_0000 ≤ hi - lo → q ≤ p → (hi ≡ p) × (0x0700_0000 ≤ p - q)
-    left p q hi lo a b g o = (omega arith, omega arith)
+    left : (p q hi : ℕ) → hi ≡ max p q → 0x0700_0000 ≤ max p q - min p q → q ≤ p → (hi ≡ p) × (0x0700_0000 ≤ p - q)
+    left p q hi a g o = (omega arith, omega arith)
 
-    right : (p q hi lo : ℕ) → hi ≡ max p q → lo ≡ min p q → 0x0700_0000 ≤ hi - lo → p < q → (hi ≡ q) × (0x0700_0000 ≤ q - p) × (p ≤ q)
-    right p q hi lo a b g o = (omega arith, omega arith, omega arith)
+    right : (p q hi : ℕ) → hi ≡ max p q → 0x0700_0000 ≤ max p q - min p q → p < q → (hi ≡ q) × (0x0700_0000 ≤ q - p) × (p ≤ q)
+    right p q hi a g o = (omega arith, omega arith, omega arith)
 
     go : Dec (q ≤ p) → ofBits binary32 hi ≡ hypot x y
     go (yes o) =
-        let z = left p q hi lo a b g o in
+        let z = left p q hi a g o in
         ap (ofBits binary32) (z .0) ∙ largest x y p q s t h o (z .1)
     go (no o) =
-        let z = right p q hi lo a b g (lt-of-not-le o) in
+        let z = right p q hi a g (lt-of-not-le o) in
         ap (ofBits binary32) (z .0) ∙ largest′ x y p q s t k (z .2) (z .1)
 
--- ---- one magnitude is zero
+-- ---- one magnitude is zero, or both are
 twice : (u : ℕ) → 4 * (u * u + 0) ≡ (2 * u) * (2 * u)
 twice u = ap (λ (z : ℕ). 4 * z) (add-zero (u * u)) ∙ sym (sq-twice u)
 
@@ -108,3 +108,12 @@ alone p h = nearest-unique (unitsOf p * unitsOf p + 0) p (record {
 
     over : 2 * unitsOf p < halfway p
     over = unfold halfway in sum-gt (unitsOf p) (unitsOf (suc p)) (units-lt p (suc p) (native.Mathlib.Nat.le-refl (suc p)))
+
+pub both-zero : (p q : ℕ) → p + q ≡ 0 → 0 ≡ nearestRoot (square (unitsOf p) + square (unitsOf q))
+both-zero p q e = alone 0 (lib.Dec.lit< tt) ∙ ap₂ (λ (a b : ℕ). nearestRoot (square (unitsOf a) + square (unitsOf b))) (left p q e) (right p q e)
+  where
+    left : (p q : ℕ) → p + q ≡ 0 → 0 ≡ p
+    left p q e = omega arith
+
+    right : (p q : ℕ) → p + q ≡ 0 → 0 ≡ q
+    right p q e = omega arith

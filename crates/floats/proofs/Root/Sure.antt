@@ -3,7 +3,8 @@ use mathlib.Core.Path.{_≡_, refl, sym, ap, _∙_, subst}
 use mathlib.Core.Logic.{inl}
 use mathlib.Core.Bool.{Bool, true, false, not, true≢false}
 use Prim.Native.Nat.{ℕ, suc, _+_, _-_, _*_, _/_, _%_, _^_, _≤_, _<_, zero-le}
-use native.Mathlib.Nat.{mul-assoc, mul-comm, mul-left-comm, mul-le-mul-right, le-of-mul-le-mul-right, lt-of-not-le, lt-of-le-of-lt, lt-of-lt-of-le, le-trans, le-of-eq, le-of-lt, mul-pos}
+use native.Mathlib.Nat.{mul-assoc, mul-comm, mul-left-comm, mul-le-mul-right, le-of-mul-le-mul-right, lt-of-not-le, not-le-of-lt, lt-of-le-of-lt, lt-of-lt-of-le, le-trans, le-of-eq, le-of-lt, mul-pos}
+use native.Mathlib.Decide.{decLe}
 use native.Mathlib.Omega.{arith}
 use lib.IntN.{ℤ, negsuc}
 use lib.Dec.{T, lt→ltb}
@@ -16,6 +17,8 @@ use lib.Ieee.Positive.{positive, num, den, den-pos, own-value, first-pos, positi
 use lib.Ieee.Bits.{ofBits-toBits, toBits-lt}
 use Rattle.floats.specs.Hypot.{unitsOf, halfway, square, nearestRoot, hypot}
 use Rattle.floats.proofs.Root.Values.{finite-value, shape, finite}
+use Rattle.floats.proofs.Root.Units.{units-lt, units-le}
+use Rattle.floats.proofs.Root.Seek.{sq-le, sq-twice}
 use Rattle.floats.proofs.Root.Nearest.{nearest-unique}
 use Rattle.floats.proofs.Root.Order.{is-true, lt-not-le, round-lt}
 use Rattle.floats.proofs.Root.Plus.{Plus, alike, square-plus, round-plus}
@@ -185,51 +188,99 @@ module _ (s : Float) (n p : ℕ) (sum : s ≡ round binary64 false n (2 ^ 298)) 
 -- ---- the pattern that the code takes: its points lie 150000 patterns or more on either side of r
 pub record Taken (p b : ℕ) : Type 0 where
   pub small : b < 0x7f80_0000
-  pub large : 0x80_0000 < b
-  pub after : (b - 1 + 0x1_c000_0000) * 0x2000_0000 + 0x1000_0000 + 150000 ≤ p
+  pub after : (b + 0x1_c000_0000) * 0x2000_0000 + 150000 ≤ p + 0x1000_0000
   pub before : p + 150000 ≤ (b + 0x1_c000_0000) * 0x2000_0000 + 0x1000_0000
 
-certified : (s : Float) (n p b : ℕ) → s ≡ round binary64 false n (2 ^ 298) → Taken p b
+-- the root lies past the point above the smallest normal pattern, as a sum of squares does where one of the patterns is past it
+abbrev Normal : ℕ → Type 0
+Normal n = square (halfway 0x80_0000) ≤ 4 * n
+
+certified : (s : Float) (n p b : ℕ) → s ≡ round binary64 false n (2 ^ 298) → Normal n → Taken p b
     → lt (mul binary64 s less) (mul binary64 (ofBits binary64 p) (ofBits binary64 p)) ≡ true
     → lt (mul binary64 (ofBits binary64 p) (ofBits binary64 p)) (mul binary64 s more) ≡ true → b ≡ nearestRoot n
-certified s n p b sum t u v = nearest-unique n b (record {
+certified s n p b sum w t u v = nearest-unique n b (record {
   range = le-of-lt (t .small);
-  lower = λ c e. inl (subst (λ (z : ℕ). square (halfway z) < 4 * n) (pred b c e) (past-it s n p sum (omega arith) (omega arith) u v (b - 1) (omega arith) (omega arith) (t .after)));
-  upper = λ _. inl (before-it s n p sum (omega arith) (omega arith) u v b (omega arith) (t .small) (t .before));
+  lower = λ c e. inl (subst (λ (z : ℕ). square (halfway z) < 4 * n) (pred b c e) (past-it s n p sum lo hi u v (b - 1) (omega (arith, large)) (omega arith) (after b p large (t .after))));
+  upper = λ _. inl (before-it s n p sum lo hi u v b (le-of-lt large) (t .small) (t .before));
 })
   where
+    lo : 4503599627370496 ≤ p
+    lo = omega arith
+
+    hi : p < 0x7ff0_0000_0000_0000
+    hi = omega arith
+
     pred : (b c : ℕ) → b ≡ suc c → b - 1 ≡ c
     pred b c e = omega arith
 
-taken : (x y s : Float) (p b : ℕ) → T (fits binary32 x) → T (fits binary32 y) → T (not (isNan x)) → T (not (isNan y)) → s ≡ total x y → Taken p b
+    after : (b p : ℕ) → 0x80_0000 < b → (b + 0x1_c000_0000) * 0x2000_0000 + 150000 ≤ p + 0x1000_0000 → (b - 1 + 0x1_c000_0000) * 0x2000_0000 + 0x1000_0000 + 150000 ≤ p
+    after b p l h = omega arith
+
+    before : (b p : ℕ) → b ≤ 0x80_0000 → p + 150000 ≤ (b + 0x1_c000_0000) * 0x2000_0000 + 0x1000_0000 → p + 150000 ≤ (0x80_0000 + 0x1_c000_0000) * 0x2000_0000 + 0x1000_0000
+    before b p l h = omega arith
+
+    large : 0x80_0000 < b
+    large = lt-of-not-le (λ (g : b ≤ 0x80_0000). not-le-of-lt (before-it s n p sum lo hi u v 0x80_0000 (lib.Dec.lit≤ tt) (lib.Dec.lit< tt) (before b p g (t .before))) w)
+
+-- one of two patterns whose sum is above twice the smallest normal pattern is past that
+normal : (P Q : ℕ) → 0x100_0000 < P + Q → Normal (square (unitsOf P) + square (unitsOf Q))
+normal P Q h = go (decLe 0x80_0001 P)
+  where
+    add-left : (a b : ℕ) → a ≤ a + b
+    add-left a b = omega arith
+
+    add-right : (a b : ℕ) → b ≤ a + b
+    add-right a b = omega arith
+
+    under : (a b c : ℕ) → a < b → b ≤ c → a + b ≤ 2 * c
+    under a b c h k = omega arith
+
+    other : (P Q : ℕ) → 0x100_0000 < P + Q → P < 0x80_0001 → 0x80_0001 ≤ Q
+    other P Q h l = omega arith
+
+    times : (a m : ℕ) → a ≤ m → 4 * a ≤ 4 * m
+    times a m k = omega arith
+
+    one : (b m : ℕ) → 0x80_0001 ≤ b → square (unitsOf b) ≤ m → Normal m
+    one b m l k =
+        le-trans (sq-le (halfway 0x80_0000) (2 * unitsOf b) (unfold halfway in under (unitsOf 0x80_0000) (unitsOf 0x80_0001) (unitsOf b) (units-lt 0x80_0000 0x80_0001 (lib.Dec.lit< tt)) (units-le 0x80_0001 b l)))
+        (le-trans (le-of-eq (sq-twice (unitsOf b))) (times (square (unitsOf b)) m k))
+
+    go : Dec (0x80_0001 ≤ P) → Normal (square (unitsOf P) + square (unitsOf Q))
+    go (yes l) = one P (square (unitsOf P) + square (unitsOf Q)) l (add-left (square (unitsOf P)) (square (unitsOf Q)))
+    go (no l) = one Q (square (unitsOf P) + square (unitsOf Q)) (other P Q h (lt-of-not-le l)) (add-right (square (unitsOf P)) (square (unitsOf Q)))
+
+taken : (x y s : Float) (p b : ℕ) → T (fits binary32 x) → T (fits binary32 y) → T (not (isNan x)) → T (not (isNan y)) → s ≡ total x y
+    → 0x100_0000 < toBits binary32 x % 2147483648 + toBits binary32 y % 2147483648 → Taken p b
     → lt (mul binary64 s less) (mul binary64 (ofBits binary64 p) (ofBits binary64 p)) ≡ true
     → lt (mul binary64 (ofBits binary64 p) (ofBits binary64 p)) (mul binary64 s more) ≡ true → ofBits binary32 b ≡ hypot x y
 unfolding isNan
-taken nan y s p b f g v w h t k l = absurd v
-taken (inf i) y s p b f g v w h t k l = absurd (not-infinite s _ (h ∙ (unfold mul in left-infinite (unlike i i) (mul binary64 y y) (alike i) (square-plus binary64 y w))) k)
-taken (fin i m e) nan s p b f g v w h t k l = absurd w
-taken (fin i m e) (inf j) s p b f g v w h t k l = absurd (not-infinite s _ (h ∙ (unfold mul in right-infinite (unlike j j) (mul binary64 (fin i m e) (fin i m e)) (alike j) (square-plus binary64 (fin i m e) tt))) k)
-taken (fin i m e) (fin j n d) s p b f g v w h t k l =
+taken nan y s p b f g v w h o t k l = absurd v
+taken (inf i) y s p b f g v w h o t k l = absurd (not-infinite s _ (h ∙ (unfold mul in left-infinite (unlike i i) (mul binary64 y y) (alike i) (square-plus binary64 y w))) k)
+taken (fin i m e) nan s p b f g v w h o t k l = absurd w
+taken (fin i m e) (inf j) s p b f g v w h o t k l = absurd (not-infinite s _ (h ∙ (unfold mul in right-infinite (unlike j j) (mul binary64 (fin i m e) (fin i m e)) (alike j) (square-plus binary64 (fin i m e) tt))) k)
+taken (fin i m e) (fin j n d) s p b f g v w h o t k l =
     let a = finite-value i m e f in
     let c = finite-value j n d g in
     let P = toBits binary32 (fin i m e) % 2147483648 in
     let Q = toBits binary32 (fin j n d) % 2147483648 in
     let is = add-at binary64 (mul binary64 (fin i m e) (fin i m e)) (mul binary64 (fin j n d) (fin j n d)) (square (unitsOf P)) (square (unitsOf Q)) (2 ^ 298) (pow-pos 298) (square-value P (a .0) i m e (a .1)) (square-value Q (c .0) j n d (c .1)) in
-    ap (ofBits binary32) (certified s (square (unitsOf P) + square (unitsOf Q)) p b (h ∙ is) t k l)
+    ap (ofBits binary32) (certified s (square (unitsOf P) + square (unitsOf Q)) p b (h ∙ is) (normal P Q o) t k l)
     ∙ finite (fin i m e) (fin j n d) P Q (shape (fin i m e) f) (shape (fin j n d) g) (a .0) (c .0)
 
--- ---- by the numbers that the code has: z is r's pattern and 2 ^ 28
-pub near-enough : (p z : ℕ) → p < 2 ^ 64 → z ≡ (p + 0x1000_0000) % 2 ^ 64 → 150000 ≤ z % 0x2000_0000 → z % 0x2000_0000 ≤ 536720912 → 0x1_c080_0000 < z / 0x2000_0000 → z / 0x2000_0000 < 0x2_3f80_0000
-    → Taken p (z / 0x2000_0000 - 0x1_c000_0000)
-near-enough p z h e a b c d =
-    let w : p + 0x1000_0000 ≡ z = omega arith in
-    record { small = omega arith; large = omega arith; after = omega arith; before = omega arith }
+-- ---- by the numbers that the code has: z is r's pattern and 2 ^ 28, less 0x1_c000_0000 times 2 ^ 29, which wraps
+near-enough : (p z : ℕ) → p < 2 ^ 64 → z ≡ (p + 0xc800_0000_1000_0000) % 2 ^ 64 → 1200000 ≤ z % 0x2000_0000 * 8 → z % 0x2000_0000 * 8 ≤ 4293767296 → z / 0x2000_0000 < 0x7f7f_ffff
+    → Taken p (z / 0x2000_0000)
+near-enough p z h e a b c =
+    let w : p + 0x1000_0000 ≡ z + 0x3800_0000_0000_0000 = omega arith in
+    record { small = omega arith; after = omega arith; before = omega arith }
 
-pub sure : (x y s r : Float) (z : ℕ) → T (fits binary32 x) → T (fits binary32 y) → T (not (isNan x)) → T (not (isNan y)) → s ≡ total x y → T (fits binary64 r)
-    → z ≡ (toBits binary64 r + 0x1000_0000) % 2 ^ 64 → 150000 ≤ z % 0x2000_0000 → z % 0x2000_0000 ≤ 536720912 → 0x1_c080_0000 < z / 0x2000_0000 → z / 0x2000_0000 < 0x2_3f80_0000
-    → lt (mul binary64 s less) (mul binary64 r r) ≡ true → lt (mul binary64 r r) (mul binary64 s more) ≡ true → ofBits binary32 (z / 0x2000_0000 - 0x1_c000_0000) ≡ hypot x y
-sure x y s r z f g v w h q e a b c d k l =
+pub sure : (x y s r : Float) (z : ℕ) → T (fits binary32 x) → T (fits binary32 y) → T (not (isNan x)) → T (not (isNan y)) → s ≡ total x y
+    → 0x100_0000 < toBits binary32 x % 2147483648 + toBits binary32 y % 2147483648 → T (fits binary64 r)
+    → z ≡ (toBits binary64 r + 0xc800_0000_1000_0000) % 2 ^ 64 → 1200000 ≤ z % 0x2000_0000 * 8 → z % 0x2000_0000 * 8 ≤ 4293767296 → z / 0x2000_0000 < 0x7f7f_ffff
+    → lt (mul binary64 s less) (mul binary64 r r) ≡ true → lt (mul binary64 r r) (mul binary64 s more) ≡ true → ofBits binary32 (z / 0x2000_0000) ≡ hypot x y
+sure x y s r z f g v w h o q e a b c k l =
     let back = ofBits-toBits binary64 r q in
-    taken x y s (toBits binary64 r) (z / 0x2000_0000 - 0x1_c000_0000) f g v w h (near-enough (toBits binary64 r) z (toBits-lt binary64 r q) e a b c d)
+    taken x y s (toBits binary64 r) (z / 0x2000_0000) f g v w h o (near-enough (toBits binary64 r) z (toBits-lt binary64 r q) e a b c)
     (subst (λ (o : Float). lt (mul binary64 s less) (mul binary64 o o) ≡ true) (sym back) k)
     (subst (λ (o : Float). lt (mul binary64 o o) (mul binary64 s more) ≡ true) (sym back) l)

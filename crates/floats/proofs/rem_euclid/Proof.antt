@@ -11,7 +11,7 @@ abs-requires c κs = search needs
 
 returns : tie.Need-returns
 unfolding remEuclid ofBits
-returns c = simp (c .before .if1 .taken, c .abs .ensures)
+returns c = simp (c .if1 .taken, c .before .abs .ensures)
 
 returns-2 : tie.Need-returns-2
 unfolding remEuclid ofBits
