@@ -7,7 +7,7 @@ use game::Player;
 use game::Team;
 
 // One more, or not.
-pub fn counted(wanted: bool, n: usize) -> usize
+pub(crate) fn counted(wanted: bool, n: usize) -> usize
     requires { ⌜ n < 20 ⌝ }
     ensures { λ r. ⌜ r ≡ countIf wanted n ⌝ }
 {

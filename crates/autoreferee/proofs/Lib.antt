@@ -1,0 +1,4 @@
+pub mod Listing
+pub mod Signs
+pub mod Turned
+pub mod Cases

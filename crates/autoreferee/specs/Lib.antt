@@ -1,0 +1,5 @@
+pub mod Motion
+pub mod Ball
+pub mod Places
+pub mod Codes
+pub mod Turned

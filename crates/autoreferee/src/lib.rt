@@ -1,0 +1,18 @@
+// The judges and the places of lib.rs that stand above the rules, under its names.
+mod ball;
+mod motion;
+mod places;
+
+pub use ball::BallJudgment;
+pub use ball::GoalJudgment;
+pub use ball::check_ball_out;
+pub use ball::judge_goal;
+pub use motion::PlayerReference;
+pub use motion::has_moved;
+pub use motion::moved_players;
+pub use motion::references_after;
+pub use places::Placement;
+pub use places::place_ball_at_restart;
+pub use places::place_ball_in_set;
+pub use places::place_for_penalty_shot;
+pub use places::place_penalty_goalkeeper;

@@ -1,0 +1,99 @@
+-- What an accepted situation's floats are: coordinates within 64 either way, sizes of the field in their ranges. Assumes nothing.
+use mathlib.Core.Path.{_≡_, refl, sym, ap, _∙_, subst}
+use mathlib.Core.Bool.{Bool, true, false, not, _&&_}
+use Prim.Native.Nat.{ℕ}
+use lib.Dec.{T}
+use lib.Ieee.{Float, binary32, neg, lt, le, fits, isNan, ofBits}
+use lib.Ieee.Bits.{ofBits-fits}
+use Rattle.lists.proofs.Every.{both-true}
+use Rattle.floats.specs.Arithmetic.{zero32, one}
+use Rattle.floats.specs.Values.{posZero, Number, Finite}
+use Rattle.floats.specs.Candidates.{sixtyFour, Within}
+use Rattle.floats.proofs.Laws.Order.{le-trans-f, neg-number}
+use Rattle.floats.proofs.Laws.MinMax.{le-numbers}
+use Rattle.floats.proofs.Laws.Candidates.{finite-within}
+use Rattle.game.specs.declared.Ball.{Ball}
+use Rattle.game.specs.declared.FieldDimensions.{FieldDimensions}
+use Rattle.autoreferee.specs.Turned.{Located, Sized}
+use Rattle.decision.specs.Refusals.{within, four, isSize, isCoordinate, fieldFits, ballFits}
+
+-- a value that compares is a number
+no-nan : (x : Float) → isNan x ≡ false → T (not (isNan x))
+no-nan x e = subst (λ (b : Bool). T (not b)) (sym e) tt
+
+constant : (b : ℕ) → T (not (isNan (ofBits binary32 b))) → Number binary32 (ofBits binary32 b)
+constant b n = record { fit = ofBits-fits binary32 b; no-nan = n }
+
+sixty-four : Number binary32 sixtyFour
+unfolding ofBits isNan
+sixty-four = constant 0x4280_0000 tt
+
+-- ---- from a range to a number within 64
+pub between : (lo x hi : Float) → T (fits binary32 x) → within lo x hi ≡ true → Number binary32 x
+between lo x hi f e = record { fit = f; no-nan = no-nan x (le-numbers x hi (both-true (le lo x) (le x hi) e .1) .0) }
+
+pub coordinate-within : (x : Float) → T (fits binary32 x) → isCoordinate x ≡ true → Within x
+coordinate-within x f e =
+    let p = both-true (le (neg sixtyFour) x) (le x sixtyFour) e in
+    record { number = between (neg sixtyFour) x sixtyFour f e; lowest = p .0; highest = p .1 }
+
+-- a range from lo, which is not below -64, to 64
+pub range-within : (b : ℕ) (x : Float) → T (fits binary32 x) → T (not (isNan (ofBits binary32 b))) → le (neg sixtyFour) (ofBits binary32 b) ≡ true → within (ofBits binary32 b) x sixtyFour ≡ true → Within x
+range-within b x f n l e =
+    let p = both-true (le (ofBits binary32 b) x) (le x sixtyFour) e in
+    let q = between (ofBits binary32 b) x sixtyFour f e in
+    record {
+      number = q;
+      lowest = le-trans-f binary32 (neg sixtyFour) (ofBits binary32 b) x (neg-number binary32 sixtyFour sixty-four) (constant b n) q l (p .0);
+      highest = p .1;
+    }
+
+pub size-within : (x : Float) → T (fits binary32 x) → isSize x ≡ true → Within x
+unfolding ofBits isNan le neg
+size-within x f e = range-within 0 x f tt refl e
+
+-- ---- the ball
+pub ball-located : (o : Ball) → T (fits binary32 (o .x)) → T (fits binary32 (o .y)) → ballFits o ≡ true → Located o
+ball-located o f g e =
+    let p = both-true (isCoordinate (o .x) && isCoordinate (o .y)) (isCoordinate (o .z)) e .0 in
+    let q = both-true (isCoordinate (o .x)) (isCoordinate (o .y)) p in
+    record { x-number = coordinate-within (o .x) f (q .0) .number; y-number = coordinate-within (o .y) g (q .1) .number }
+
+-- ---- the field
+-- the ranges that the laws ask for
+pub record Ranges (f : FieldDimensions) : Type 0 where
+  pub length-range : within four (f .length) sixtyFour ≡ true
+  pub width-range : within four (f .width) sixtyFour ≡ true
+  pub border-range : isSize (f .«border_strip_width») ≡ true
+  pub radius-range : isSize (f .«ball_radius») ≡ true
+
+pub field-ranges : (f : FieldDimensions) → fieldFits f ≡ true → Ranges f
+unfolding fieldFits
+field-ranges f e =
+    let a = both-true _ _ e in
+    let b = both-true _ _ (a .0) in
+    let c = both-true _ _ (b .0) in
+    let d = both-true _ _ (c .0) in
+    let g = both-true _ _ (d .0) in
+    let h = both-true _ _ (g .0) in
+    let i = both-true _ _ (h .0) in
+    let j = both-true _ _ (i .0) in
+    let k = both-true _ _ (j .0) in
+    let l = both-true _ _ (k .0) in
+    let m = both-true _ _ (l .0) in
+    let n = both-true _ _ (m .0) in
+    let o = both-true _ _ (n .0) in
+    record { length-range = o .0; width-range = o .1; border-range = d .1; radius-range = a .1 }
+
+pub field-sized : (f : FieldDimensions) → T (fits binary32 (f .length)) → T (fits binary32 (f .«ball_radius»)) → fieldFits f ≡ true → Sized f
+unfolding ofBits isNan le neg
+field-sized f g h e =
+    let r = field-ranges f e in
+    let w = range-within 0x4080_0000 (f .length) g tt refl (r .length-range) in
+    let v = size-within (f .«ball_radius») h (r .radius-range) in
+    record {
+      length-finite = finite-within (f .length) w;
+      radius-finite = finite-within (f .«ball_radius») v;
+      length-least = le-trans-f binary32 posZero four (f .length) (constant 0 tt) (constant 0x4080_0000 tt) (w .number) refl (both-true (le four (f .length)) (le (f .length) sixtyFour) (r .length-range) .0);
+      radius-least = both-true (le zero32 (f .«ball_radius»)) (le (f .«ball_radius») sixtyFour) (r .radius-range) .0;
+    }

@@ -1,0 +1,5 @@
+pub mod Refused
+pub mod Accepted
+pub mod Sides
+pub mod Told
+pub mod HalfTurn

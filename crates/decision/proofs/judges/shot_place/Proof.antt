@@ -1,0 +1,22 @@
+use Rattle.decision.specs.Decision.{shotPlaceOf}
+use borrow.Author.Needs.{needs}
+use Rattle.decision.proofs.judges.shot_place.Statement.{statement}
+use Rattle.decision.proofs.judges.shot_place.Tie as tie
+
+team-of-requires : tie.Need-team-of-requires
+team-of-requires c κs = search needs
+
+player-numbered-requires : tie.Need-player-numbered-requires
+player-numbered-requires c κs = search needs
+
+place-for-penalty-shot-requires : tie.Need-place-for-penalty-shot-requires
+place-for-penalty-shot-requires c κs = search needs
+
+returns : tie.Need-returns
+unfolding shotPlaceOf
+returns c = cc
+
+pub shot-place-spec : {M : Type 1} → statement M
+shot-place-spec =
+    tie.close
+    (tie.spec team-of-requires player-numbered-requires place-for-penalty-shot-requires returns)

@@ -1,0 +1,161 @@
+// A decision: every item of document 01 for one situation, or the number of the refusal.
+ghost use mathlib.Core.Path.{_≡_};
+ghost use Rattle.decision.specs.Decision as Spec;
+use super::judges::KickingPlayer;
+use super::judges::PlayerVerdict;
+use autoreferee::BallJudgment;
+use autoreferee::Placement;
+use autoreferee::PlayerReference;
+use game::Ball;
+use game::FieldDimensions;
+use game::Game;
+use game::PlayerList;
+use game::PlayerMargins;
+use game::ReferencePose;
+use game::Side;
+use game::Situation;
+use game::Team;
+use positioning::Positioning;
+
+// The items that each side has of its own.
+pub struct SideDecision {
+    pub verdicts: [PlayerVerdict; 20],
+    pub excess: PlayerList,
+    pub leaving: PlayerList,
+    pub moved: PlayerList,
+    pub references: [PlayerReference; 20],
+}
+
+// The items of a decision.
+pub struct Decision {
+    pub home: SideDecision,
+    pub away: SideDecision,
+    pub kicker: KickingPlayer,
+    pub ball: BallJudgment,
+    pub place: Placement,
+}
+
+// The number of the refusal, or 0 beside the decision; a refusal gives the empty one.
+pub struct Answer {
+    pub refusal: u8,
+    pub decision: Decision,
+}
+
+// The items of one side, by its margins.
+fn team_decision(
+    game: Game,
+    field: FieldDimensions,
+    ball: Ball,
+    side: Side,
+    team: Team,
+    margins: [PlayerMargins; 20],
+) -> SideDecision
+    ensures { λ r. ⌜ r ≡ Spec.teamDecision game field ball side team margins ⌝ }
+{
+    let verdicts = super::judges::team_verdicts(game, field, ball, side, team, margins);
+    let excess = super::judges::team_excess(game, team, margins);
+    let leaving = super::judges::leaving_players(team, field);
+    let moved = autoreferee::moved_players(team);
+    let references = autoreferee::references_after(team);
+    SideDecision {
+        verdicts,
+        excess,
+        leaving,
+        moved,
+        references,
+    }
+}
+
+// The margins of a side's players.
+fn side_margins(game: Game, field: FieldDimensions, side: Side, team: Team) -> [PlayerMargins; 20]
+    ensures { λ r. ⌜ r ≡ Spec.teamMargins game field side team ⌝ }
+{
+    let sides = game.sides;
+    let sign = geometry::side_to_sign(side, sides);
+    geometry::compute_margins(team, field, sign)
+}
+
+// The decision on a situation that is not refused.
+fn judged<'a>(s: Situation, xs: &'a [f32], ys: &'a [f32]) -> Decision
+    ensures { λ r. ⌜ r ≡ Spec.decisionOf s (now (xs .entry)) (now (ys .entry)) ⌝ }
+{
+    let game = s.game;
+    let field = s.field;
+    let b = s.ball;
+    let home_team = s.home;
+    let away_team = s.away;
+    let home_margins = side_margins(game, field, Side::Home, home_team);
+    let away_margins = side_margins(game, field, Side::Away, away_team);
+    let home = team_decision(game, field, b, Side::Home, home_team, home_margins);
+    let away = team_decision(game, field, b, Side::Away, away_team, away_margins);
+    let kicker = super::judges::kicking_player(
+        game,
+        home_team,
+        away_team,
+        field,
+        home_margins,
+        away_margins,
+    );
+    let ball = super::judges::ball_judgment(s);
+    let place = super::judges::wished_place(s, xs, ys);
+    Decision {
+        home,
+        away,
+        kicker,
+        ball,
+        place,
+    }
+}
+
+// Every verdict Legal, no lists and no references.
+fn empty_side() -> SideDecision
+    ensures { λ r. ⌜ r ≡ Spec.emptySide ⌝ }
+{
+    let legal = Positioning::Legal;
+    let verdict = PlayerVerdict { verdict: legal };
+    let verdicts = [verdict; 20];
+    let none = ReferencePose::NoReference;
+    let reference = PlayerReference { reference: none };
+    let references = [reference; 20];
+    let excess = super::judges::empty_list();
+    let leaving = super::judges::empty_list();
+    let moved = super::judges::empty_list();
+    SideDecision {
+        verdicts,
+        excess,
+        leaving,
+        moved,
+        references,
+    }
+}
+
+// The decision beside a refusal.
+fn empty_decision() -> Decision
+    ensures { λ r. ⌜ r ≡ Spec.emptyDecision ⌝ }
+{
+    let home = empty_side();
+    let away = empty_side();
+    let kicker = KickingPlayer::NoKicker;
+    let ball = BallJudgment::NoJudgment;
+    let place = Placement::NoPlace;
+    Decision {
+        home,
+        away,
+        kicker,
+        ball,
+        place,
+    }
+}
+
+// One situation, one decision; the earlier places of the batch are the two lists.
+pub fn decide<'a>(s: Situation, xs: &'a [f32], ys: &'a [f32]) -> Answer
+    ensures { λ r. ⌜ r ≡ Spec.answerOf s (now (xs .entry)) (now (ys .entry)) ⌝ }
+{
+    let refusal = super::refusals::refusal(s, xs, ys);
+    if refusal == 0 {
+        let decision = judged(s, xs, ys);
+        return Answer { refusal, decision };
+    }
+    let decision = empty_decision();
+    Answer { refusal, decision }
+}

@@ -1,0 +1,7 @@
+pub mod Nearest
+pub mod Turns
+pub mod Choosing
+pub mod Told
+pub mod Sizes
+pub mod Turned
+pub mod Cases

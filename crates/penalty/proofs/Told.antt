@@ -1,0 +1,72 @@
+-- From what the calls tell to the definitions. Assumes nothing.
+use mathlib.Core.Path.{_≡_, refl, sym, ap, _∙_}
+use mathlib.Core.Bool.{Bool, cond}
+use mathlib.Core.List.{List}
+use Prim.Native.Nat.{ℕ, zero, suc, _-_, _≤_, _<_}
+use native.Mathlib.Omega.{arith}
+use borrow.Author.Tests.{le-leb, lt-leb}
+use lib.ListN.{length, List·getD-eq-default}
+use lib.Ieee.{Float}
+use Rattle.floats.specs.Arithmetic.{_*₃₂_}
+use Rattle.game.specs.Players.{playerAt, nobody}
+use Rattle.game.specs.declared.FieldDimensions.{FieldDimensions}
+use Rattle.game.specs.declared.Player.{Player}
+use Rattle.game.specs.declared.PlayerPose.{PlayerPose}
+use Rattle.game.specs.declared.Side.{Side}
+use Rattle.game.specs.declared.Side.the-variants.{Home, Away}
+use Rattle.game.specs.declared.SideMapping.{SideMapping}
+use Rattle.game.specs.declared.Team.{Team}
+use Rattle.geometry.specs.Geometry.{sideToSign}
+use Rattle.autoreferee.specs.Places.{playerNumbered}
+use Rattle.autoreferee.specs.declared.places.Placement.{Placement}
+use Rattle.autoreferee.specs.declared.places.Placement.the-variants.{NoPlace, PlayerAt}
+use Rattle.penalty.specs.Penalty.{Spot, spotsAt, edgeOf, inward, teamPlace, clearFrom, posePlace, seenPlace, leftOut, occupied, teamOfSide, placeForPenalty}
+use Rattle.penalty.specs.Walk.{spotsOf}
+
+-- ---- a player by its number
+pub none-numbered : (t : Team) (n : ℕ) (r : Player) → length (t .players) ≡ 20 → n ≡ 0 → r ≡ playerAt t 20 → r ≡ playerNumbered t n
+none-numbered t n r l e q = q ∙ List·getD-eq-default (t .players) nobody {n = 20} (omega arith) ∙ ap (playerNumbered t) (sym e)
+
+pub one-numbered : (t : Team) (n : ℕ) (r : Player) → (n ≡ 0 → ⊥) → r ≡ playerAt t (n - 1) → r ≡ playerNumbered t n
+one-numbered t zero r h q = absurd (h refl)
+one-numbered t (suc i) r h q = q ∙ ap (playerAt t) (less i)
+  where
+    less : (i : ℕ) → suc i - 1 ≡ i
+    less i = omega arith
+
+-- ---- a place
+pub pose-told : (f : FieldDimensions) (d sign : Float) (p : PlayerPose) (spots : List Spot) (side : Side) (number : ℕ) (y theta x : Float) → y ≡ edgeOf f p → theta ≡ inward y → x ≡ teamPlace f (p .radius) d (clearFrom sign y spots)
+    → PlayerAt side number (sign *₃₂ x) y theta ≡ posePlace f d sign p spots side number
+unfolding posePlace
+pose-told f d sign p spots side number y theta x a b c =
+    ap (λ (z : Float). PlayerAt side number (sign *₃₂ z) y theta) c
+    ∙ ap (λ (z : Float). PlayerAt side number (sign *₃₂ teamPlace f (p .radius) d (clearFrom sign y spots)) y z) b
+    ∙ ap (λ (z : Float). PlayerAt side number (sign *₃₂ teamPlace f (p .radius) d (clearFrom sign z spots)) z (inward z)) a
+
+module _ (sides : SideMapping) (f : FieldDimensions) (d : Float) (home away : Team) (xs ys : List Float) (side : Side) (number : ℕ) where
+  spots : ℕ → ℕ → List Spot
+  spots a b = spotsOf (record { home = home; away = away; «skip_home» = a; «skip_away» = b }) xs ys
+
+  taken : spots (leftOut side number Home) (leftOut side number Away) ≡ occupied home away side number xs ys
+  unfolding spots spotsOf occupied
+  taken = refl
+
+  place : Float → Player → List Spot → Placement
+  place sign q s = seenPlace f d sign (q .pose) s side number
+
+  pub place-given : (team : Team) (q : Player) (sign : Float) (a b : ℕ) (r : Placement) → length xs ≤ length ys → team ≡ teamOfSide home away side → q ≡ playerNumbered team number → sign ≡ sideToSign side sides
+      → a ≡ leftOut side number Home → b ≡ leftOut side number Away → r ≡ seenPlace f d sign (q .pose) (spotsOf (record { home = home; away = away; «skip_home» = a; «skip_away» = b }) xs ys) side number
+      → r ≡ placeForPenalty sides f d home away xs ys side number
+  unfolding placeForPenalty spots place
+  place-given team q sign a b r l t n s h w e =
+      e
+      ∙ ap (λ (z : Player). place sign z (spots a b)) (n ∙ ap (λ (z : Team). playerNumbered z number) t)
+      ∙ ap (λ (z : Float). place z (playerNumbered (teamOfSide home away side) number) (spots a b)) s
+      ∙ ap (λ (z : ℕ). place (sideToSign side sides) (playerNumbered (teamOfSide home away side) number) (spots z b)) h
+      ∙ ap (λ (z : ℕ). place (sideToSign side sides) (playerNumbered (teamOfSide home away side) number) (spots (leftOut side number Home) z)) w
+      ∙ ap (place (sideToSign side sides) (playerNumbered (teamOfSide home away side) number)) taken
+      ∙ ap (λ (z : Bool). cond z (place (sideToSign side sides) (playerNumbered (teamOfSide home away side) number) (occupied home away side number xs ys)) NoPlace) (sym (le-leb (length xs) (length ys) l))
+
+  pub place-none : length ys < length xs → NoPlace ≡ placeForPenalty sides f d home away xs ys side number
+  unfolding placeForPenalty
+  place-none l = ap (λ (z : Bool). cond z (seenPlace f d (sideToSign side sides) (playerNumbered (teamOfSide home away side) number .pose) (occupied home away side number xs ys) side number) NoPlace) (sym (lt-leb (length xs) (length ys) l))

@@ -1,0 +1,2 @@
+pub mod Penalty
+pub mod Walk
