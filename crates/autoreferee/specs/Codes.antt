@@ -4,10 +4,10 @@ use Prim.Native.Nat.{ℕ}
 use lib.Ieee.{Float}
 use Rattle.game.specs.declared.Side.{Side}
 use Rattle.game.specs.declared.Side.the-variants.{Home, Away}
-use Rattle.autoreferee.specs.declared.ball.BallJudgment.{BallJudgment}
-use Rattle.autoreferee.specs.declared.ball.BallJudgment.the-variants.{NoJudgment, Goal, GoalKick, CornerKick, ThrowIn, EndOfPenaltyShot}
-use Rattle.autoreferee.specs.declared.places.Placement.{Placement}
-use Rattle.autoreferee.specs.declared.places.Placement.the-variants.{NoPlace, BallAt, PlayerAt}
+use Rattle.ball.specs.declared.BallJudgment.{BallJudgment}
+use Rattle.ball.specs.declared.BallJudgment.the-variants.{NoJudgment, Goal, GoalKick, CornerKick, ThrowIn, EndOfPenaltyShot}
+use Rattle.places.specs.declared.Placement.{Placement}
+use Rattle.places.specs.declared.Placement.the-variants.{NoPlace, BallAt, PlayerAt}
 
 -- of a side
 abbrev pub sideCode : Side → ℕ

@@ -1,5 +1,1 @@
-pub mod Motion
-pub mod Ball
-pub mod Places
 pub mod Codes
-pub mod Turned

@@ -1,8 +1,5 @@
-// The judges and the places of lib.rs that stand above the rules, under its names.
-mod ball;
-mod motion;
-mod places;
-
+// The judges and the places of lib.rs that stand above the rules, under its names. Each stands in a crate by its theme, so that an edit proves little again;
+// place_for_penalty stands in `penalty`.
 pub use ball::BallJudgment;
 pub use ball::GoalJudgment;
 pub use ball::check_ball_out;

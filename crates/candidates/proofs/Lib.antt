@@ -2,4 +2,3 @@ pub mod CandidatesWalk
 pub mod CandidatesFill
 pub mod CandidatesList
 pub mod CandidatesEnd
-pub mod CasesCandidates

@@ -14,7 +14,8 @@ use Rattle.floats.proofs.Laws.MinMax.{le-numbers}
 use Rattle.floats.proofs.Laws.Candidates.{finite-within}
 use Rattle.game.specs.declared.Ball.{Ball}
 use Rattle.game.specs.declared.FieldDimensions.{FieldDimensions}
-use Rattle.autoreferee.specs.Turned.{Located, Sized}
+use Rattle.places.specs.Turned.{Located}
+use Rattle.ball.specs.Turned.{Sized}
 use Rattle.decision.specs.Refusals.{within, four, isSize, isCoordinate, fieldFits, ballFits}
 
 -- a value that compares is a number

@@ -24,13 +24,14 @@ use Rattle.game.specs.declared.Wish.{Wish}
 use Rattle.game.specs.declared.Wish.the-variants.{Nothing, BallAtRestart, BallInSet, ForPenalty, ForPenaltyShot, Goalkeeper}
 use Rattle.geometry.specs.Turned.{turnedGame, turnedTeam, turnedBall, turnedPlayer}
 use Rattle.positioning.proofs.Turned.{player-at-changed}
-use Rattle.autoreferee.specs.Ball.{ballJudgment}
-use Rattle.autoreferee.specs.Places.{playerNumbered, penaltyShotPlace, penaltyGoalkeeperPlace}
-use Rattle.autoreferee.specs.Turned.{Located, Sized, FitsY, SamePlace, none, isExcepted}
-use Rattle.autoreferee.specs.declared.ball.BallJudgment.{BallJudgment}
-use Rattle.autoreferee.specs.declared.places.Placement.{Placement}
-use Rattle.autoreferee.proofs.Turned.Judgment.{judgment-turned, judgment-differs}
-use Rattle.autoreferee.proofs.Turned.Placed.{ball-at-restart-turned, ball-in-set-turned, penalty-shot-turned, penalty-goalkeeper-turned}
+use Rattle.ball.specs.Ball.{ballJudgment}
+use Rattle.places.specs.Places.{playerNumbered, penaltyShotPlace, penaltyGoalkeeperPlace}
+use Rattle.places.specs.Turned.{Located, FitsY, SamePlace, none}
+use Rattle.ball.specs.Turned.{Sized, isExcepted}
+use Rattle.ball.specs.declared.BallJudgment.{BallJudgment}
+use Rattle.places.specs.declared.Placement.{Placement}
+use Rattle.ball.proofs.Turned.{judgment-turned, judgment-differs}
+use Rattle.places.proofs.Turned.{ball-at-restart-turned, ball-in-set-turned, penalty-shot-turned, penalty-goalkeeper-turned}
 use Rattle.penalty.specs.Penalty.{teamOfSide}
 use Rattle.penalty.proofs.Sizes.{PlaceSizes}
 use Rattle.penalty.proofs.Sizes as Sizes

@@ -38,10 +38,10 @@ use Rattle.selection.specs.Kicker.{determineKickingPlayer}
 use Rattle.selection.proofs.Counting.{count-same}
 use Rattle.selection.proofs.ExcessLaws.{excess-same}
 use Rattle.selection.proofs.KickerLaws.{turnedSeen, kicker-turned}
-use Rattle.autoreferee.specs.Motion.{numberAt, movedPlayers, referencesAfter}
-use Rattle.autoreferee.specs.Turned.{changedElement}
-use Rattle.autoreferee.specs.declared.motion.PlayerReference.{PlayerReference}
-use Rattle.autoreferee.proofs.Turned.Motion.{moved-players-turned, references-turned}
+use Rattle.motion.specs.Motion.{numberAt, movedPlayers, referencesAfter}
+use Rattle.motion.specs.Turned.{changedElement}
+use Rattle.motion.specs.declared.PlayerReference.{PlayerReference}
+use Rattle.motion.proofs.Turned.{moved-players-turned, references-turned}
 use Rattle.decision.specs.Decision.{verdictAt, teamVerdicts, teamExcess, isExcessAsked, emptyList, leavingPlayers, leavingAt, teamMargins, sideMargins, teamDecision, sideDecision, kickerNumbered, sideKicker, kickerOf, kickerIfAny, kickingPlayer}
 use Rattle.decision.specs.HalfTurn.{turned, SameReference, SameReferences, SameSide}
 use Rattle.decision.specs.declared.call.SideDecision.{SideDecision}

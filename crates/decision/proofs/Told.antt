@@ -24,10 +24,10 @@ use Rattle.positioning.specs.Positioning.{isIllegallyPositioned}
 use Rattle.positioning.specs.declared.Positioning.{Positioning}
 use Rattle.selection.specs.Excess.{goalAreaExcess}
 use Rattle.selection.specs.Kicker.{determineKickingPlayer}
-use Rattle.autoreferee.specs.Motion.{numberAt, movedPlayers, referencesAfter}
-use Rattle.autoreferee.specs.declared.ball.BallJudgment.{BallJudgment}
-use Rattle.autoreferee.specs.declared.motion.PlayerReference.{PlayerReference}
-use Rattle.autoreferee.specs.declared.places.Placement.{Placement}
+use Rattle.motion.specs.Motion.{numberAt, movedPlayers, referencesAfter}
+use Rattle.ball.specs.declared.BallJudgment.{BallJudgment}
+use Rattle.motion.specs.declared.PlayerReference.{PlayerReference}
+use Rattle.places.specs.declared.Placement.{Placement}
 use Rattle.decision.specs.Refusals.{refusalOf}
 use Rattle.decision.specs.Decision.{verdictAt, teamVerdicts, isExcessAsked, emptyList, teamExcess, leavingPlayers, kickerNumbered, sideKicker, kickingPlayer, ballCalled, wishedPlace, teamMargins, teamDecision, sideMargins, sideDecision, decisionOf, emptyDecision, answerOf}
 use Rattle.decision.specs.declared.call.SideDecision.{SideDecision}

@@ -32,14 +32,14 @@ use Rattle.positioning.specs.declared.Positioning.the-variants.{Legal}
 use Rattle.selection.specs.Counts.{playersOnField}
 use Rattle.selection.specs.Excess.{goalAreaExcess}
 use Rattle.selection.specs.Kicker.{determineKickingPlayer}
-use Rattle.autoreferee.specs.Motion.{numberAt, movedPlayers, referencesAfter}
-use Rattle.autoreferee.specs.Ball.{ballJudgment}
-use Rattle.autoreferee.specs.Places.{ballAtRestart, ballInSet, penaltyShotPlace, penaltyGoalkeeperPlace, playerNumbered}
-use Rattle.autoreferee.specs.declared.ball.BallJudgment.{BallJudgment}
-use Rattle.autoreferee.specs.declared.ball.BallJudgment.the-variants.{NoJudgment}
-use Rattle.autoreferee.specs.declared.motion.PlayerReference.{PlayerReference}
-use Rattle.autoreferee.specs.declared.places.Placement.{Placement}
-use Rattle.autoreferee.specs.declared.places.Placement.the-variants.{NoPlace}
+use Rattle.motion.specs.Motion.{numberAt, movedPlayers, referencesAfter}
+use Rattle.ball.specs.Ball.{ballJudgment}
+use Rattle.places.specs.Places.{ballAtRestart, ballInSet, penaltyShotPlace, penaltyGoalkeeperPlace, playerNumbered}
+use Rattle.ball.specs.declared.BallJudgment.{BallJudgment}
+use Rattle.ball.specs.declared.BallJudgment.the-variants.{NoJudgment}
+use Rattle.motion.specs.declared.PlayerReference.{PlayerReference}
+use Rattle.places.specs.declared.Placement.{Placement}
+use Rattle.places.specs.declared.Placement.the-variants.{NoPlace}
 use Rattle.penalty.specs.Penalty.{placeForPenalty}
 use Rattle.decision.specs.Refusals.{refusalOf}
 use Rattle.decision.specs.declared.judges.PlayerVerdict.{PlayerVerdict}

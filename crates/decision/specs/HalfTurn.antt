@@ -19,8 +19,9 @@ use Rattle.game.specs.declared.Team.{Team}
 use Rattle.game.specs.declared.Wish.{Wish}
 use Rattle.game.specs.declared.Wish.the-variants.{Nothing, BallAtRestart, BallInSet, ForPenalty, ForPenaltyShot, Goalkeeper}
 use Rattle.geometry.specs.Turned.{turnedGame, turnedTeam, turnedBall}
-use Rattle.autoreferee.specs.Turned.{SamePlace, isExcepted}
-use Rattle.autoreferee.specs.declared.motion.PlayerReference.{PlayerReference}
+use Rattle.places.specs.Turned.{SamePlace}
+use Rattle.ball.specs.Turned.{isExcepted}
+use Rattle.motion.specs.declared.PlayerReference.{PlayerReference}
 use Rattle.decision.specs.declared.call.SideDecision.{SideDecision}
 use Rattle.decision.specs.declared.call.Decision.{Decision}
 

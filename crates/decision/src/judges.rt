@@ -1,8 +1,8 @@
 // What the judges and the places are asked of a situation, item by item.
 ghost use mathlib.Core.Path.{_≡_};
 ghost use Prim.Native.Nat.{_<_};
-ghost use Rattle.autoreferee.specs.Motion as Motion;
-ghost use Rattle.autoreferee.specs.Places as Places;
+ghost use Rattle.motion.specs.Motion as Motion;
+ghost use Rattle.places.specs.Places as Places;
 ghost use Rattle.decision.specs.Decision as Spec;
 use autoreferee::BallJudgment;
 use autoreferee::Placement;

@@ -4,4 +4,3 @@ pub mod Choosing
 pub mod Told
 pub mod Sizes
 pub mod Turned
-pub mod Cases

@@ -23,7 +23,7 @@ use Rattle.game.specs.declared.FieldDimensions.{FieldDimensions}
 use Rattle.game.specs.declared.PlayerPose.{PlayerPose}
 use Rattle.game.specs.declared.SeenPose.{SeenPose}
 use Rattle.game.specs.declared.SeenPose.the-variants.{Absent, Present}
-use Rattle.autoreferee.specs.Turned.{quarterTurn, HalfRound, to-negative, from-negative}
+use Rattle.places.specs.Turned.{quarterTurn, HalfRound, to-negative, from-negative}
 use Rattle.penalty.specs.Penalty.{edgeOf, inward}
 
 -- 4

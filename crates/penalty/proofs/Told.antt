@@ -17,9 +17,9 @@ use Rattle.game.specs.declared.Side.the-variants.{Home, Away}
 use Rattle.game.specs.declared.SideMapping.{SideMapping}
 use Rattle.game.specs.declared.Team.{Team}
 use Rattle.geometry.specs.Geometry.{sideToSign}
-use Rattle.autoreferee.specs.Places.{playerNumbered}
-use Rattle.autoreferee.specs.declared.places.Placement.{Placement}
-use Rattle.autoreferee.specs.declared.places.Placement.the-variants.{NoPlace, PlayerAt}
+use Rattle.places.specs.Places.{playerNumbered}
+use Rattle.places.specs.declared.Placement.{Placement}
+use Rattle.places.specs.declared.Placement.the-variants.{NoPlace, PlayerAt}
 use Rattle.penalty.specs.Penalty.{Spot, spotsAt, edgeOf, inward, teamPlace, clearFrom, posePlace, seenPlace, leftOut, occupied, teamOfSide, placeForPenalty}
 use Rattle.penalty.specs.Walk.{spotsOf}
 

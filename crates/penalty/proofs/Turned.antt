@@ -28,11 +28,11 @@ use Rattle.game.specs.declared.Team.{Team}
 use Rattle.geometry.specs.Geometry.{sideToSign}
 use Rattle.geometry.specs.Turned.{signed, changedPose, changedSeen, changedPlayer, changedTeam, exchanged, changedEnds, turnedTeam}
 use Rattle.positioning.proofs.Turned.{distance-changed, sign-changed, player-at-changed}
-use Rattle.autoreferee.specs.Places.{playerNumbered}
-use Rattle.autoreferee.specs.Turned.{HalfRound, ChangedPlace, none, player, SamePlace}
-use Rattle.autoreferee.specs.declared.places.Placement.{Placement}
-use Rattle.autoreferee.specs.declared.places.Placement.the-variants.{NoPlace}
-use Rattle.autoreferee.proofs.Signs.{place-changed, copysign-changed}
+use Rattle.places.specs.Places.{playerNumbered}
+use Rattle.places.specs.Turned.{HalfRound, ChangedPlace, none, player, SamePlace}
+use Rattle.places.specs.declared.Placement.{Placement}
+use Rattle.places.specs.declared.Placement.the-variants.{NoPlace}
+use Rattle.places.proofs.Signs.{place-changed, copysign-changed}
 use Rattle.candidates.specs.Candidates.{firstCandidate}
 use Rattle.penalty.specs.Penalty.{Spot, spotOf, spotsAt, teamSpots, earlierSpots, leftOut, occupied, distanceFrom, leastOf, clearance, Found, ifEnough, firstReaching, notBelow, laterGreater, lastGreatest, orElse, chosen, startOf, lowestOf, highestOf, othersOf, teamPlace, edgeOf, inward, clearFrom, posePlace, seenPlace, teamOfSide, placeForPenalty}
 use Rattle.penalty.proofs.Sizes.{Fit, heading-turned}

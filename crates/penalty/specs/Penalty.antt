@@ -21,9 +21,9 @@ use Rattle.game.specs.declared.Team.{Team}
 use Rattle.game.specs.declared.FieldDimensions.{FieldDimensions}
 use Rattle.game.specs.declared.SideMapping.{SideMapping}
 use Rattle.geometry.specs.Geometry.{sideToSign}
-use Rattle.autoreferee.specs.Places.{playerNumbered}
-use Rattle.autoreferee.specs.declared.places.Placement.{Placement}
-use Rattle.autoreferee.specs.declared.places.Placement.the-variants.{NoPlace, PlayerAt}
+use Rattle.places.specs.Places.{playerNumbered}
+use Rattle.places.specs.declared.Placement.{Placement}
+use Rattle.places.specs.declared.Placement.the-variants.{NoPlace, PlayerAt}
 use Rattle.candidates.specs.Candidates.{unfit, candidatesOf, firstCandidate}
 
 -- ---- who stands where

@@ -6,7 +6,7 @@ ghost use lib.Ieee.{le};
 ghost use Rattle.lists.specs.Fold.{foldTo};
 ghost use Rattle.floats.specs.Leaves.{totalOrder};
 ghost use lib.ListN.{length, getD};
-ghost use Rattle.autoreferee.specs.Places.{playerNumbered};
+ghost use Rattle.places.specs.Places.{playerNumbered};
 ghost use Rattle.penalty.specs.Penalty as Spec;
 ghost use Rattle.penalty.specs.Walk as Walk;
 use autoreferee::Placement;

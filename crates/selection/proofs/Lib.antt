@@ -7,5 +7,3 @@ pub mod KickerKeys
 pub mod CountsLaws
 pub mod ExcessLaws
 pub mod KickerLaws
-pub mod CasesExcess
-pub mod CasesKicker

@@ -6,8 +6,8 @@ use native.Mathlib.Omega.{arith}
 use borrow.Author.Needs.{needs}
 use Rattle.lists.specs.Gather.{flatTo}
 use Rattle.game.specs.Players.{listed}
-use Rattle.autoreferee.specs.Motion.{numberAt, appendIf}
-use Rattle.autoreferee.proofs.Listing.{listed-none, listed-count, listed-turn, listed-done}
+use Rattle.motion.specs.Motion.{numberAt, appendIf}
+use Rattle.motion.proofs.Listing.{listed-none, listed-count, listed-turn, listed-done}
 use Rattle.decision.specs.Decision.{isLeavingAt, leavingAt, leavingPlayers}
 use Rattle.decision.proofs.judges.leaving_players.Statement.{statement}
 use Rattle.decision.proofs.judges.leaving_players.Tie as tie

@@ -1,4 +1,0 @@
-pub mod Listing
-pub mod Signs
-pub mod Turned
-pub mod Cases

@@ -1,0 +1,2 @@
+pub mod Ball
+pub mod Turned

@@ -1,0 +1,1 @@
+// Cases of document 01, evaluated by the definitions. No code.

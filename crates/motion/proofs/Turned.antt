@@ -1,0 +1,72 @@
+-- Who has moved is the same, and the reference poses after the check are those of before, changed. Assumes nothing.
+use mathlib.Core.Path.{_≡_, refl, ap, ap₂, _∙_}
+use mathlib.Core.Bool.{Bool, true, false, _&&_}
+use mathlib.Core.List.{List, _∷_, map}
+use Prim.Native.Nat.{ℕ, zero, suc}
+use Rattle.lists.specs.Gather.{onlyIf}
+use Rattle.lists.specs.Table.{table}
+use Rattle.lists.proofs.Gather.{flat-same}
+use Rattle.lists.proofs.Table.{table-same}
+use Rattle.game.specs.Game.{isUnpenalized}
+use Rattle.game.specs.Players.{playerAt, listed}
+use Rattle.game.specs.declared.Player.{Player}
+use Rattle.game.specs.declared.PlayerPose.{PlayerPose}
+use Rattle.game.specs.declared.ReferencePose.{ReferencePose}
+use Rattle.game.specs.declared.ReferencePose.the-variants.{NoReference, Reference}
+use Rattle.game.specs.declared.SeenPose.{SeenPose}
+use Rattle.game.specs.declared.SeenPose.the-variants.{Absent, Present}
+use Rattle.game.specs.declared.Team.{Team}
+use Rattle.geometry.specs.Turned.{changedPose, changedSeen, changedReference, changedPlayer, changedTeam, turnedPlayer, turnedTeam}
+use Rattle.positioning.proofs.Turned.{distance-changed, player-at-changed}
+use Rattle.motion.specs.Motion.{isAway, isSeenAway, hasMoved, numberAt, movedAt, movedPlayers, unlessMoved, referenceAfter, referencesAfter}
+use Rattle.motion.specs.Turned.{changedElement}
+
+away-changed : (a b : Bool) (p q : PlayerPose) → isAway (changedPose a b p) (changedPose a b q) ≡ isAway p q
+away-changed a b p q = cc (distance-changed a b (p .x) (p .y) (q .x) (q .y))
+
+seen-away-changed : (a b : Bool) (p : SeenPose) (r : ReferencePose) → isSeenAway (changedSeen a b p) (changedReference a b r) ≡ isSeenAway p r
+seen-away-changed a b Absent r = refl
+seen-away-changed a b (Present p) NoReference = refl
+seen-away-changed a b (Present p) (Reference q) = away-changed a b p q
+
+pub moved-changed : (a b : Bool) (q : Player) → hasMoved (changedPlayer a b q) ≡ hasMoved q
+moved-changed a b q = ap (λ (z : Bool). isUnpenalized (q .penalty) && z) (seen-away-changed a b (q .pose) (q .reference))
+
+-- the same of the player at a place
+moved-at : (a b : Bool) (t : Team) (i : ℕ) → hasMoved (playerAt (changedTeam a b t) i) ≡ hasMoved (playerAt t i)
+moved-at a b t i = ap hasMoved (player-at-changed a b t i) ∙ moved-changed a b (playerAt t i)
+
+pub moved-players-changed : (a b : Bool) (t : Team) → movedPlayers (changedTeam a b t) ≡ movedPlayers t
+unfolding movedPlayers
+moved-players-changed a b t =
+    ap listed (flat-same 20 (movedAt (changedTeam a b t)) (movedAt t) (λ i h. ap (λ (m : Bool). onlyIf m (numberAt i)) (moved-at a b t i)))
+
+-- a table of changed elements
+map-table : {A B : Type 0} (g : A → B) (n : ℕ) (f : ℕ → A) → table n (λ k. g (f k)) ≡ map g (table n f)
+map-table g zero f = refl
+map-table {B = B} g (suc n) f = ap (λ (l : List B). g (f 0) ∷ l) (map-table g n (λ k. f (suc k)))
+
+unless-changed : (a b m : Bool) (r : ReferencePose) → unlessMoved m (changedReference a b r) ≡ changedReference a b (unlessMoved m r)
+unless-changed a b true r = refl
+unless-changed a b false r = refl
+
+reference-changed : (a b : Bool) (t : Team) (i : ℕ) → referenceAfter (changedTeam a b t) i ≡ changedElement a b (referenceAfter t i)
+reference-changed a b t i =
+    ap (λ (r : ReferencePose). record { reference = r })
+    (ap₂ (λ (m : Bool) (q : Player). unlessMoved m (q .reference)) (moved-at a b t i) (player-at-changed a b t i) ∙ unless-changed a b (hasMoved (playerAt t i)) (playerAt t i .reference))
+
+pub references-changed : (a b : Bool) (t : Team) → referencesAfter (changedTeam a b t) ≡ map (changedElement a b) (referencesAfter t)
+unfolding referencesAfter
+references-changed a b t =
+    table-same 20 (referenceAfter (changedTeam a b t)) (λ k. changedElement a b (referenceAfter t k)) (λ i h. reference-changed a b t i)
+    ∙ map-table (changedElement a b) 20 (referenceAfter t)
+
+-- ---- the half-turn
+pub moved-turned : (q : Player) → hasMoved (turnedPlayer q) ≡ hasMoved q
+moved-turned q = moved-changed true true q
+
+pub moved-players-turned : (t : Team) → movedPlayers (turnedTeam t) ≡ movedPlayers t
+moved-players-turned t = moved-players-changed true true t
+
+pub references-turned : (t : Team) → referencesAfter (turnedTeam t) ≡ map (changedElement true true) (referencesAfter t)
+references-turned t = references-changed true true t

@@ -1,0 +1,2 @@
+pub mod Motion
+pub mod Turned

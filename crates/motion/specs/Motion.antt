@@ -1,0 +1,82 @@
+-- Who has moved from its reference pose: binary32, each operation rounded once. Definitions only.
+use mathlib.Core.Bool.{Bool, true, false, _&&_, _||_}
+use mathlib.Core.List.{List}
+use Prim.Native.Nat.{ℕ, _+_}
+use lib.Ieee.{Float, binary32, lt, ofBits}
+use Rattle.lists.specs.Gather.{flatTo, onlyIf}
+use Rattle.lists.specs.Put.{countIf, putIf}
+use Rattle.lists.specs.Table.{table}
+use Rattle.floats.specs.Arithmetic.{_-₃₂_}
+use Rattle.floats.specs.Leaves.{abs}
+use Rattle.floats.specs.Hypot.{hypot}
+use Rattle.game.specs.Game.{isUnpenalized}
+use Rattle.game.specs.Players.{playerAt, listed}
+use Rattle.game.specs.declared.Player.{Player}
+use Rattle.game.specs.declared.PlayerList.{PlayerList}
+use Rattle.game.specs.declared.PlayerPose.{PlayerPose}
+use Rattle.game.specs.declared.ReferencePose.{ReferencePose}
+use Rattle.game.specs.declared.ReferencePose.the-variants.{NoReference, Reference}
+use Rattle.game.specs.declared.SeenPose.{SeenPose}
+use Rattle.game.specs.declared.SeenPose.the-variants.{Absent, Present}
+use Rattle.game.specs.declared.Team.{Team}
+use Rattle.geometry.specs.Geometry.{normalizeAngle}
+use Rattle.motion.specs.declared.PlayerReference.{PlayerReference}
+
+-- 0.1, the distance a player must move
+abbrev pub motionDistance : Float
+motionDistance = ofBits binary32 0x3dcc_cccd
+
+-- 0.3, the angle a player must turn
+abbrev pub motionAngle : Float
+motionAngle = ofBits binary32 0x3e99_999a
+
+-- how far two poses are apart
+abbrev pub distanceBetween : PlayerPose → PlayerPose → Float
+distanceBetween p q = hypot (p .x -₃₂ q .x) (p .y -₃₂ q .y)
+
+-- how far one heading is turned from the other, either way
+abbrev pub angleBetween : PlayerPose → PlayerPose → Float
+angleBetween p q = abs (normalizeAngle (p .theta -₃₂ q .theta))
+
+-- farther than the distance, or turned by more than the angle
+abbrev pub isAway : PlayerPose → PlayerPose → Bool
+isAway p q = lt motionDistance (distanceBetween p q) || lt motionAngle (angleBetween p q)
+
+-- both poses are there, and one is away from the other
+abbrev pub isSeenAway : SeenPose → ReferencePose → Bool
+isSeenAway Absent r = false
+isSeenAway (Present p) NoReference = false
+isSeenAway (Present p) (Reference q) = isAway p q
+
+-- an unpenalised player that is away from its reference pose
+abbrev pub hasMoved : Player → Bool
+hasMoved player = isUnpenalized (player .penalty) && isSeenAway (player .pose) (player .reference)
+
+-- the number of the player at a place
+abbrev pub numberAt : ℕ → ℕ
+numberAt i = i + 1
+
+-- the number of the player at the place i, if it has moved
+abbrev pub movedAt : Team → ℕ → List ℕ
+movedAt t i = onlyIf (hasMoved (playerAt t i)) (numberAt i)
+
+-- the numbers of those of a team's players that have moved, ascending
+unfoldable pub movedPlayers : Team → PlayerList
+movedPlayers t = listed (flatTo 20 (movedAt t))
+
+-- a counted array with one more number, or unchanged
+abbrev pub appendIf : Bool → PlayerList → ℕ → PlayerList
+appendIf wanted l n = record { count = countIf wanted (l .count); numbers = putIf wanted (l .numbers) (l .count) n }
+
+-- no reference pose once it has moved
+abbrev pub unlessMoved : Bool → ReferencePose → ReferencePose
+unlessMoved true r = NoReference
+unlessMoved false r = r
+
+-- the reference pose of the player at a place after the check
+abbrev pub referenceAfter : Team → ℕ → PlayerReference
+referenceAfter t i = record { reference = unlessMoved (hasMoved (playerAt t i)) (playerAt t i .reference) }
+
+-- the reference poses after the check, by the players' places
+unfoldable pub referencesAfter : Team → List PlayerReference
+referencesAfter t = table 20 (referenceAfter t)
