@@ -16,7 +16,7 @@ use Rattle.game.specs.declared.Ball.{Ball}
 use Rattle.game.specs.declared.FieldDimensions.{FieldDimensions}
 use Rattle.places.specs.Turned.{Located}
 use Rattle.ball.specs.Turned.{Sized}
-use Rattle.decision.specs.Refusals.{within, four, isSize, isCoordinate, fieldFits, ballFits}
+use Rattle.refusals.specs.Refusals.{within, four, isSize, isCoordinate, fieldFits, ballFits}
 
 -- a value that compares is a number
 no-nan : (x : Float) → isNan x ≡ false → T (not (isNan x))

@@ -37,11 +37,11 @@ use Rattle.penalty.proofs.Sizes.{PlaceSizes}
 use Rattle.penalty.proofs.Sizes as Sizes
 use Rattle.penalty.proofs.Turned.{place-for-penalty-turned}
 use Rattle.selection.specs.Counts.{playersOnField}
-use Rattle.decision.specs.Refusals.{within, isSize, isCoordinate, isRadius, isPlayerNumber, poseFits, seenFits, referenceFits, playerFits, teamFits, posesFit, listsFit, fieldFits, ballFits, numbersFit, wishFits, restartFits, numberFits, distanceFits, five, firstFailing, refusalOf}
+use Rattle.refusals.specs.Refusals.{within, isSize, isCoordinate, isRadius, isPlayerNumber, poseFits, seenFits, referenceFits, playerFits, teamFits, posesFit, listsFit, fieldFits, ballFits, numbersFit, wishFits, restartFits, numberFits, distanceFits, five, firstFailing, refusalOf}
 use Rattle.decision.specs.Decision.{ballCalled, restartPlaceOf, setPlaceOf, penaltyPlaceOf, shotPlaceOf, goalkeeperPlaceOf, placeFor, wishedPlace, sideDecision, sideMargins, kickingPlayer, decisionOf}
 use Rattle.decision.specs.HalfTurn.{turned, turnedPlaces, SameDecision, keepsHeading, Excepted, Fit, AllFit, SeenFit, PlayerFit}
 use Rattle.decision.specs.declared.judges.KickingPlayer.{KickingPlayer}
-use Rattle.decision.proofs.Refused.{poses-fit-changed, ball-fits-changed}
+use Rattle.refusals.proofs.Refused.{poses-fit-changed, ball-fits-changed}
 use Rattle.decision.proofs.Accepted.{Ranges, coordinate-within, ball-located, field-ranges, field-sized}
 use Rattle.decision.proofs.Sides.{team-turned, side-margins-turned, side-same, kicking-turned, count-turned}
 

@@ -1,4 +1,3 @@
-pub mod Refused
 pub mod Accepted
 pub mod Sides
 pub mod Told

@@ -28,7 +28,7 @@ use Rattle.motion.specs.Motion.{numberAt, movedPlayers, referencesAfter}
 use Rattle.ball.specs.declared.BallJudgment.{BallJudgment}
 use Rattle.motion.specs.declared.PlayerReference.{PlayerReference}
 use Rattle.places.specs.declared.Placement.{Placement}
-use Rattle.decision.specs.Refusals.{refusalOf}
+use Rattle.refusals.specs.Refusals.{refusalOf}
 use Rattle.decision.specs.Decision.{verdictAt, teamVerdicts, isExcessAsked, emptyList, teamExcess, leavingPlayers, kickerNumbered, sideKicker, kickingPlayer, ballCalled, wishedPlace, teamMargins, teamDecision, sideMargins, sideDecision, decisionOf, emptyDecision, answerOf}
 use Rattle.decision.specs.declared.call.SideDecision.{SideDecision}
 use Rattle.decision.specs.declared.call.Decision.{Decision}

@@ -41,7 +41,7 @@ use Rattle.motion.specs.declared.PlayerReference.{PlayerReference}
 use Rattle.places.specs.declared.Placement.{Placement}
 use Rattle.places.specs.declared.Placement.the-variants.{NoPlace}
 use Rattle.penalty.specs.Penalty.{placeForPenalty}
-use Rattle.decision.specs.Refusals.{refusalOf}
+use Rattle.refusals.specs.Refusals.{refusalOf}
 use Rattle.decision.specs.declared.judges.PlayerVerdict.{PlayerVerdict}
 use Rattle.decision.specs.declared.judges.KickingPlayer.{KickingPlayer}
 use Rattle.decision.specs.declared.judges.KickingPlayer.the-variants.{NoKicker, Kicker}

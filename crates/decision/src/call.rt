@@ -151,7 +151,7 @@ fn empty_decision() -> Decision
 pub fn decide<'a>(s: Situation, xs: &'a [f32], ys: &'a [f32]) -> Answer
     ensures { λ r. ⌜ r ≡ Spec.answerOf s (now (xs .entry)) (now (ys .entry)) ⌝ }
 {
-    let refusal = super::refusals::refusal(s, xs, ys);
+    let refusal = refusals::refusal(s, xs, ys);
     if refusal == 0 {
         let decision = judged(s, xs, ys);
         return Answer { refusal, decision };

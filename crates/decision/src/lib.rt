@@ -1,7 +1,6 @@
 // The call: one situation, one decision, or the number of a refusal.
 mod call;
 mod judges;
-mod refusals;
 
 pub use call::Answer;
 pub use call::Decision;

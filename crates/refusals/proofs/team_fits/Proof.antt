@@ -1,0 +1,50 @@
+-- The loop's answer so far is that of the places passed.
+use borrow.Author.Needs.{needs}
+use Prim.Native.Nat.{ℕ, _≤_, _-_}
+use mathlib.Core.Path.{_≡_}
+use lib.ListN.{length, getD}
+use lib.Ieee.{nan}
+use Rattle.game.specs.Players.{playerAt}
+use Rattle.refusals.specs.Refusals.{playerFits, teamFits}
+use Rattle.lists.specs.Every.{everyTo}
+use Rattle.lists.proofs.Every.{every-none, every-turn, every-done}
+use Rattle.refusals.proofs.team_fits.Statement.{statement}
+use Rattle.refusals.proofs.team_fits.Tie as tie
+
+abbrev Inv-loop : tie.InvT-loop
+Inv-loop team ok₀ i₀ ok i = (i ≤ 20) × (ok ≡ everyTo i (λ k. playerFits (playerAt team k)))
+
+abbrev μ-loop : tie.MeasureT-loop
+μ-loop team ok₀ i₀ ok i = 20 - i
+
+loop-holds : tie.Need-loop-holds Inv-loop μ-loop
+loop-holds c = (search needs, every-none _)
+
+players-fit-more-requires : tie.Need-players-fit-more-requires Inv-loop μ-loop
+players-fit-more-requires c κs = search needs
+
+add-i : tie.Need-add-i Inv-loop μ-loop
+add-i c = search needs
+
+loop-less : tie.Need-loop-less Inv-loop μ-loop
+loop-less c = search needs
+
+loop-again : tie.Need-loop-again Inv-loop μ-loop
+loop-again c = (search needs, every-turn _ _ _ _ (c .before .before .loop .inv .1) (c .players-fit-more .ensures))
+
+returns : tie.Need-returns Inv-loop μ-loop
+unfolding teamFits
+returns c = every-done _ _ _ _ (c .before .loop .inv .0) (c .loop-test .left) (c .before .loop .inv .1)
+
+pub team-fits-spec : {M : Type 1} → statement M
+team-fits-spec =
+    tie.close
+    (tie.spec
+    Inv-loop
+    μ-loop
+    loop-holds
+    players-fit-more-requires
+    add-i
+    loop-less
+    loop-again
+    returns)
