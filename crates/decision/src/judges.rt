@@ -2,7 +2,6 @@
 ghost use mathlib.Core.Path.{_≡_};
 ghost use Prim.Native.Nat.{_<_};
 ghost use Rattle.motion.specs.Motion as Motion;
-ghost use Rattle.places.specs.Places as Places;
 ghost use Rattle.decision.specs.Decision as Spec;
 use autoreferee::BallJudgment;
 use autoreferee::Placement;
@@ -252,17 +251,6 @@ pub fn ball_judgment(s: Situation) -> BallJudgment
     )
 }
 
-// The player with a number; nobody has the number 0.
-fn player_numbered(team: Team, number: u8) -> Player
-    ensures { λ r. ⌜ r ≡ Places.playerNumbered team number ⌝ }
-{
-    if number == 0 {
-        return game::player_at(team, 20);
-    }
-    let i = (number - 1) as usize;
-    game::player_at(team, i)
-}
-
 // The place of a player that is selected for a penalty shot.
 fn shot_place(s: Situation, side: Side, number: u8) -> Placement
     ensures { λ r. ⌜ r ≡ Spec.shotPlaceOf s side number ⌝ }
@@ -270,7 +258,7 @@ fn shot_place(s: Situation, side: Side, number: u8) -> Placement
     let game = s.game;
     let field = s.field;
     let team = game::team_of(s, side);
-    let player = player_numbered(team, number);
+    let player = places::player_numbered(team, number);
     autoreferee::place_for_penalty_shot(game, field, side, number, player)
 }
 

@@ -2,13 +2,11 @@
 use mathlib.Core.Path.{_≡_, refl, sym, ap, _∙_}
 use mathlib.Core.Bool.{Bool, cond}
 use mathlib.Core.List.{List}
-use Prim.Native.Nat.{ℕ, zero, suc, _-_, _≤_, _<_}
-use native.Mathlib.Omega.{arith}
+use Prim.Native.Nat.{ℕ, _≤_, _<_}
 use borrow.Author.Tests.{le-leb, lt-leb}
-use lib.ListN.{length, List·getD-eq-default}
+use lib.ListN.{length}
 use lib.Ieee.{Float}
 use Rattle.floats.specs.Arithmetic.{_*₃₂_}
-use Rattle.game.specs.Players.{playerAt, nobody}
 use Rattle.game.specs.declared.FieldDimensions.{FieldDimensions}
 use Rattle.game.specs.declared.Player.{Player}
 use Rattle.game.specs.declared.PlayerPose.{PlayerPose}
@@ -22,17 +20,6 @@ use Rattle.places.specs.declared.Placement.{Placement}
 use Rattle.places.specs.declared.Placement.the-variants.{NoPlace, PlayerAt}
 use Rattle.penalty.specs.Penalty.{Spot, spotsAt, edgeOf, inward, teamPlace, clearFrom, posePlace, seenPlace, leftOut, occupied, teamOfSide, placeForPenalty}
 use Rattle.penalty.specs.Walk.{spotsOf}
-
--- ---- a player by its number
-pub none-numbered : (t : Team) (n : ℕ) (r : Player) → length (t .players) ≡ 20 → n ≡ 0 → r ≡ playerAt t 20 → r ≡ playerNumbered t n
-none-numbered t n r l e q = q ∙ List·getD-eq-default (t .players) nobody {n = 20} (omega arith) ∙ ap (playerNumbered t) (sym e)
-
-pub one-numbered : (t : Team) (n : ℕ) (r : Player) → (n ≡ 0 → ⊥) → r ≡ playerAt t (n - 1) → r ≡ playerNumbered t n
-one-numbered t zero r h q = absurd (h refl)
-one-numbered t (suc i) r h q = q ∙ ap (playerAt t) (less i)
-  where
-    less : (i : ℕ) → suc i - 1 ≡ i
-    less i = omega arith
 
 -- ---- a place
 pub pose-told : (f : FieldDimensions) (d sign : Float) (p : PlayerPose) (spots : List Spot) (side : Side) (number : ℕ) (y theta x : Float) → y ≡ edgeOf f p → theta ≡ inward y → x ≡ teamPlace f (p .radius) d (clearFrom sign y spots)

@@ -34,6 +34,7 @@ use Rattle.places.specs.declared.Placement.{Placement}
 use Rattle.places.specs.declared.Placement.the-variants.{NoPlace}
 use Rattle.places.proofs.Signs.{place-changed, copysign-changed}
 use Rattle.candidates.specs.Candidates.{firstCandidate}
+use Rattle.places.proofs.Numbered.{numbered-changed}
 use Rattle.penalty.specs.Penalty.{Spot, spotOf, spotsAt, teamSpots, earlierSpots, leftOut, occupied, distanceFrom, leastOf, clearance, Found, ifEnough, firstReaching, notBelow, laterGreater, lastGreatest, orElse, chosen, startOf, lowestOf, highestOf, othersOf, teamPlace, edgeOf, inward, clearFrom, posePlace, seenPlace, teamOfSide, placeForPenalty}
 use Rattle.penalty.proofs.Sizes.{Fit, heading-turned}
 
@@ -183,21 +184,17 @@ module _ (a b : Bool) (H : Float → Float → Type 0) (f : FieldDimensions) (d 
   chosen-changed false c = none
 
   module _ (home away : Team) where
-    -- the team of a side, and a player by its number
+    -- the team of a side
     team-changed : (side : Side) → teamOfSide (changedTeam a b home) (changedTeam a b away) side ≡ changedTeam a b (teamOfSide home away side)
     team-changed Home = refl
     team-changed Away = refl
-
-    numbered-changed : (t : Team) (number : ℕ) → playerNumbered (changedTeam a b t) number ≡ changedPlayer a b (playerNumbered t number)
-    numbered-changed t zero = refl
-    numbered-changed t (suc i) = player-at-changed a b t i
 
     -- the place of the player with this number
     pub place-for-penalty-changed : (sides : SideMapping) (xs ys : List Float) → Asked b H f (playerNumbered (teamOfSide home away side) number .pose)
         → ChangedPlace a b H (placeForPenalty sides f d home away xs ys side number) (placeForPenalty (changedEnds a sides) f d (changedTeam a b home) (changedTeam a b away) (map (signed a) xs) (map (signed b) ys) side number)
     unfolding placeForPenalty
     place-for-penalty-changed sides xs ys t =
-        rw (occupied-changed a b home away side number xs ys, length-map (signed a) xs, length-map (signed b) ys, sign-changed a side sides, team-changed side, numbered-changed (teamOfSide home away side) number)
+        rw (occupied-changed a b home away side number xs ys, length-map (signed a) xs, length-map (signed b) ys, sign-changed a side sides, team-changed side, numbered-changed a b (teamOfSide home away side) number)
         (chosen-changed (leb (length xs) (length ys)) (seen-place-changed (sideToSign side sides) (playerNumbered (teamOfSide home away side) number .pose) (occupied home away side number xs ys) t))
 
 -- ---- the half-turn

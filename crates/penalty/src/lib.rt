@@ -6,7 +6,6 @@ ghost use lib.Ieee.{le};
 ghost use Rattle.lists.specs.Fold.{foldTo};
 ghost use Rattle.floats.specs.Leaves.{totalOrder};
 ghost use lib.ListN.{length, getD};
-ghost use Rattle.places.specs.Places.{playerNumbered};
 ghost use Rattle.penalty.specs.Penalty as Spec;
 ghost use Rattle.penalty.specs.Walk as Walk;
 use autoreferee::Placement;
@@ -262,17 +261,6 @@ fn team_place<'a>(
     taken.x
 }
 
-// The player with a number; nobody has the number 0.
-fn player_numbered(team: Team, number: u8) -> Player
-    ensures { λ r. ⌜ r ≡ playerNumbered team number ⌝ }
-{
-    if number == 0 {
-        return game::player_at(team, 20);
-    }
-    let i = (number - 1) as usize;
-    game::player_at(team, i)
-}
-
 // One of the two teams.
 fn team_of_side(home: Team, away: Team, side: Side) -> Team
     ensures { λ r. ⌜ r ≡ Spec.teamOfSide home away side ⌝ }
@@ -362,7 +350,7 @@ pub fn place_for_penalty<'a>(
 {
     if xs.len() <= ys.len() {
         let team = team_of_side(home, away, side);
-        let player = player_numbered(team, number);
+        let player = places::player_numbered(team, number);
         let pose = player.pose;
         let sides = game.sides;
         let sign = geometry::side_to_sign(side, sides);

@@ -33,6 +33,7 @@ use Rattle.geometry.specs.Geometry.{sideToSign, teamX, isOnOwnGoalLine}
 use Rattle.positioning.specs.Positioning.{markX}
 use Rattle.geometry.specs.Turned.{signed, changedPose, changedSeen, changedPlayer, changedTeam, changedBall, exchanged, changedEnds, changedGame, turnedBall, turnedGame, turnedPlayer, turnedTeam}
 use Rattle.positioning.proofs.Turned.{abs-changed, team-changed, sign-changed, goal-line-changed, player-at-changed}
+use Rattle.places.proofs.Numbered.{numbered-changed}
 use Rattle.places.specs.Places.{goalLineX, touchlineY, areaLineX, areaLineY, inOpponentArea, areaFreeKickPlace, freeKickPlace, restartPlace, ballAtRestart, markPlace, centerPlace, markOr, setPlayPlace, ballInSet, heading, shotX, seenShotPlace, penaltyShotPlace, postY, keeperPlace, checkedKeeperPlace, seenKeeperPlace, playerNumbered, maybeKeeperPlace, penaltyGoalkeeperPlace}
 use Rattle.places.specs.Turned.{Located, FitsY, HalfRound, to-pi, from-pi, ChangedPlace, none, ball, player, TurnedHeading, SamePlace}
 use Rattle.places.specs.declared.Placement.{Placement}
@@ -130,14 +131,10 @@ module _ (a b : Bool) (H : Float → Float → Type 0) (kept : (theta : Float) �
   seen-keeper-changed Absent sides number penalty n = none
   seen-keeper-changed (Present p) sides number penalty n = rw (sign-changed a side sides) (checked-changed number (sideToSign side sides) (isUnpenalized penalty) p n)
 
-  numbered-changed : (t : Team) (number : ℕ) → playerNumbered (changedTeam a b t) number ≡ changedPlayer a b (playerNumbered t number)
-  numbered-changed t zero = refl
-  numbered-changed t (suc i) = player-at-changed a b t i
-
   maybe-keeper-changed : (goalkeeper : MaybeNumber) (sides : SideMapping) (t : Team) → ((number : ℕ) → FitsY (playerNumbered t number .pose)) → ChangedPlace a b H (maybeKeeperPlace goalkeeper sides f side t) (maybeKeeperPlace goalkeeper (changedEnds a sides) f side (changedTeam a b t))
   maybe-keeper-changed NoNumber sides t n = none
   maybe-keeper-changed (Numbered number) sides t n =
-      rw (numbered-changed t number) (seen-keeper-changed (playerNumbered t number .pose) sides number (playerNumbered t number .penalty) (n number))
+      rw (numbered-changed a b t number) (seen-keeper-changed (playerNumbered t number .pose) sides number (playerNumbered t number .penalty) (n number))
 
   pub penalty-goalkeeper-changed : (g : Game) (t : Team) → ((number : ℕ) → FitsY (playerNumbered t number .pose)) → ChangedPlace a b H (penaltyGoalkeeperPlace g f side t) (penaltyGoalkeeperPlace (changedGame a g) f side (changedTeam a b t))
   unfolding penaltyGoalkeeperPlace

@@ -311,6 +311,17 @@ fn seen_keeper_place(
     }
 }
 
+// The player with a number; nobody has the number 0.
+pub fn player_numbered(team: Team, number: u8) -> Player
+    ensures { λ r. ⌜ r ≡ Spec.playerNumbered team number ⌝ }
+{
+    if number == 0 {
+        return game::player_at(team, 20);
+    }
+    let i = (number - 1) as usize;
+    game::player_at(team, i)
+}
+
 // The place of the goalkeeper with this number.
 fn numbered_keeper_place(
     sides: SideMapping,
@@ -321,11 +332,7 @@ fn numbered_keeper_place(
 ) -> Placement
     ensures { λ r. ⌜ r ≡ Spec.numberedKeeperPlace number sides field side team ⌝ }
 {
-    if number == 0 {
-        return Placement::NoPlace;
-    }
-    let i = (number - 1) as usize;
-    let player = game::player_at(team, i);
+    let player = player_numbered(team, number);
     let pose = player.pose;
     let penalty = player.penalty;
     seen_keeper_place(sides, field, side, number, pose, penalty)

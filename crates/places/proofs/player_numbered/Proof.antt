@@ -1,10 +1,10 @@
 use mathlib.Core.Path.{_≡_}
 use lib.ListN.{length}
 use Rattle.lists.proofs.Lengths.{length-map}
-use Rattle.penalty.proofs.Told.{none-numbered, one-numbered}
+use Rattle.places.proofs.Numbered.{none-numbered, one-numbered}
 use borrow.Author.Needs.{needs}
-use Rattle.penalty.proofs.player_numbered.Statement.{statement}
-use Rattle.penalty.proofs.player_numbered.Tie as tie
+use Rattle.places.proofs.player_numbered.Statement.{statement}
+use Rattle.places.proofs.player_numbered.Tie as tie
 
 player-at-requires : tie.Need-player-at-requires
 player-at-requires c κs = search needs
