@@ -1,65 +1,102 @@
--- The cases of document 01 for the candidates, evaluated by the definitions. A list that the definition makes of 8192 turns is that of the few turns before the `break`. Assumes nothing.
-use mathlib.Core.Path.{_≡_, refl, ap, _∙_}
-use mathlib.Core.Bool.{false}
+-- Cases of the candidates, evaluated by the definitions. A list that the definition makes of 8192 turns is that of the few turns before the `break`. Assumes nothing.
+use mathlib.Core.Path.{_≡_, refl, ap₂, _∙_}
+use mathlib.Core.Bool.{Bool, true, false, cond}
 use mathlib.Core.List.{List, [], _∷_}
 use Prim.Native.Nat.{ℕ}
 use native.Mathlib.Omega.{arith}
-use lib.Dec.{ltb}
+use lib.Dec.{ltb, eqb}
 use lib.ListN.{length}
-use lib.Ieee.{Float, binary32, neg, add, sub, mul, lt, le, isNan, fits, ofBits, ofInt}
+use lib.IntN.{pos}
+use lib.Ieee.{Float, fin, neg}
 use Rattle.lists.specs.Gather.{flatTo}
-use Rattle.floats.specs.Leaves.{clamp}
-use Rattle.candidates.specs.Candidates.{crossed, candidatesTo, candidatesOf, unfit, refusalOf, firstRefusal, refuse}
+use Rattle.floats.specs.Arithmetic.{zero32}
+use Rattle.candidates.specs.Candidates.{crossed, candidatesTo, candidatesOf, unfit, refusalOf, firstRefusal, refuse, answerOf}
 use Rattle.candidates.proofs.CandidatesEnd.{break-is-the-end}
+use Rattle.cases.proofs.Opened.{floats}
+use Rattle.cases.proofs.Field.{_over_}
 
--- a value and its contrary, by the pattern
-abbrev plus : ℕ → Float
-plus b = ofBits binary32 b
+-- the refusal and the answer where the list l is known and refusal 5 does not apply
+module _ (start min max step : Float) (lent : ℕ) (l : List Float) (known : candidatesOf start min max step ≡ l) (fit : unfit start min max step ≡ false) where
+  known-refusal : refusalOf start min max step lent ≡ firstRefusal (refuse 5 false ∷ refuse 6 (ltb lent (length l)) ∷ [])
+  unfolding refusalOf
+  known-refusal = ap₂ (λ (b : Bool) (m : List Float). firstRefusal (refuse 5 b ∷ refuse 6 (ltb lent (length m)) ∷ [])) fit known
 
-abbrev minus : ℕ → Float
-minus b = neg (ofBits binary32 b)
+  known-answer : answerOf start min max step lent ≡ cond (eqb (firstRefusal (refuse 5 false ∷ refuse 6 (ltb lent (length l)) ∷ [])) 0) l []
+  unfolding answerOf
+  known-answer = ap₂ (λ (r : ℕ) (m : List Float). cond (eqb r 0) m []) known-refusal known
 
--- from -5, between -6.75 and -0.25, by 2: two turns
-by-2-short : candidatesTo 2 (minus 0x40a0_0000) (minus 0x40d8_0000) (minus 0x3e80_0000) (plus 0x4000_0000) ≡ minus 0x40a0_0000 ∷ minus 0x4040_0000 ∷ minus 0x3f80_0000 ∷ []
-unfolding candidatesTo crossed flatTo clamp neg add sub mul lt le isNan ofBits ofInt
-by-2-short = refl
+-- ---- from -5, between -6.75 and -0.25
+abbrev start : Float
+start = neg (5 over 1)
 
--- -5, -3, -1
-pub by-2 : candidatesOf (minus 0x40a0_0000) (minus 0x40d8_0000) (minus 0x3e80_0000) (plus 0x4000_0000) ≡ minus 0x40a0_0000 ∷ minus 0x4040_0000 ∷ minus 0x3f80_0000 ∷ []
-unfolding crossed unfit clamp neg add sub mul lt le isNan ofBits ofInt fits
-by-2 = break-is-the-end (minus 0x40a0_0000) (minus 0x40d8_0000) (minus 0x3e80_0000) (plus 0x4000_0000) (record { fits-start = tt; fits-min = tt; fits-max = tt; fits-step = tt }) 2 8192 refl (omega arith) (omega arith) refl refl ∙ by-2-short
+abbrev least : Float
+least = neg (27 over 4)
 
--- by 1: four turns
-by-1-short : candidatesTo 4 (minus 0x40a0_0000) (minus 0x40d8_0000) (minus 0x3e80_0000) (plus 0x3f80_0000)
-    ≡ minus 0x40a0_0000 ∷ minus 0x40c0_0000 ∷ minus 0x4080_0000 ∷ minus 0x4040_0000 ∷ minus 0x4000_0000 ∷ minus 0x3f80_0000 ∷ []
-unfolding candidatesTo crossed flatTo clamp neg add sub mul lt le isNan ofBits ofInt
-by-1-short = refl
+abbrev greatest : Float
+greatest = neg (1 over 4)
 
--- -5, -6, -4, -3, -2, -1
-pub by-1 : candidatesOf (minus 0x40a0_0000) (minus 0x40d8_0000) (minus 0x3e80_0000) (plus 0x3f80_0000)
-    ≡ minus 0x40a0_0000 ∷ minus 0x40c0_0000 ∷ minus 0x4080_0000 ∷ minus 0x4040_0000 ∷ minus 0x4000_0000 ∷ minus 0x3f80_0000 ∷ []
-unfolding crossed unfit clamp neg add sub mul lt le isNan ofBits ofInt fits
-by-1 = break-is-the-end (minus 0x40a0_0000) (minus 0x40d8_0000) (minus 0x3e80_0000) (plus 0x3f80_0000) (record { fits-start = tt; fits-min = tt; fits-max = tt; fits-step = tt }) 4 8192 refl (omega arith) (omega arith) refl refl ∙ by-1-short
+-- by 2, in two turns: -5, -3, -1
+abbrev threeByTwo : List Float
+threeByTwo = start ∷ neg (3 over 1) ∷ neg (1 over 1) ∷ []
+
+-- both as sign, odd number and power of two
+by-2-made : candidatesTo 2 start least greatest (2 over 1) ≡ fin true 5 (pos 0) ∷ fin true 3 (pos 0) ∷ fin true 1 (pos 0) ∷ []
+unfolding candidatesTo crossed flatTo floats
+by-2-made = refl
+
+by-2-meant : fin true 5 (pos 0) ∷ fin true 3 (pos 0) ∷ fin true 1 (pos 0) ∷ [] ≡ threeByTwo
+unfolding floats
+by-2-meant = refl
+
+by-2 : candidatesOf start least greatest (2 over 1) ≡ threeByTwo
+unfolding crossed unfit floats
+by-2 = break-is-the-end start least greatest (2 over 1) (record { fits-start = tt; fits-min = tt; fits-max = tt; fits-step = tt }) 2 8192 refl (omega arith) (omega arith) refl refl ∙ by-2-made ∙ by-2-meant
+
+-- by 1, in four turns: -5, -6, -4, -3, -2, -1
+abbrev sixByOne : List Float
+sixByOne = start ∷ neg (6 over 1) ∷ neg (4 over 1) ∷ neg (3 over 1) ∷ neg (2 over 1) ∷ neg (1 over 1) ∷ []
+
+by-1-made : candidatesTo 4 start least greatest (1 over 1) ≡ fin true 5 (pos 0) ∷ fin true 3 (pos 1) ∷ fin true 1 (pos 2) ∷ fin true 3 (pos 0) ∷ fin true 1 (pos 1) ∷ fin true 1 (pos 0) ∷ []
+unfolding candidatesTo crossed flatTo floats
+by-1-made = refl
+
+by-1-meant : fin true 5 (pos 0) ∷ fin true 3 (pos 1) ∷ fin true 1 (pos 2) ∷ fin true 3 (pos 0) ∷ fin true 1 (pos 1) ∷ fin true 1 (pos 0) ∷ [] ≡ sixByOne
+unfolding floats
+by-1-meant = refl
+
+by-1 : candidatesOf start least greatest (1 over 1) ≡ sixByOne
+unfolding crossed unfit floats
+by-1 = break-is-the-end start least greatest (1 over 1) (record { fits-start = tt; fits-min = tt; fits-max = tt; fits-step = tt }) 4 8192 refl (omega arith) (omega arith) refl refl ∙ by-1-made ∙ by-1-meant
+
+-- ---- what is written into 8,200 lent places
+pub lent-by-2 : answerOf start least greatest (2 over 1) 8200 ≡ threeByTwo
+unfolding crossed unfit floats
+lent-by-2 = known-answer start least greatest (2 over 1) 8200 threeByTwo by-2 refl
+
+pub lent-by-1 : answerOf start least greatest (1 over 1) 8200 ≡ sixByOne
+unfolding crossed unfit floats
+lent-by-1 = known-answer start least greatest (1 over 1) 8200 sixByOne by-1 refl
 
 -- 0, between 1 and -1, by 1: the bounds are crossed, and only 0 is left
-pub only-0 : candidatesOf (plus 0) (plus 0x3f80_0000) (minus 0x3f80_0000) (plus 0x3f80_0000) ≡ plus 0 ∷ []
-unfolding candidatesTo crossed neg add mul lt isNan ofBits
-only-0 = refl
+pub lent-crossed : answerOf zero32 (1 over 1) (neg (1 over 1)) (1 over 1) 8200 ≡ zero32 ∷ []
+unfolding answerOf refusalOf unfit candidatesTo crossed floats
+lent-crossed = refl
 
+-- ---- refusals
 -- three places needed and two lent: refusal 6; three lent: none
-pub two-lent : refusalOf (minus 0x40a0_0000) (minus 0x40d8_0000) (minus 0x3e80_0000) (plus 0x4000_0000) 2 ≡ 6
-unfolding refusalOf unfit crossed neg lt isNan ofBits
-two-lent = ap (λ (l : List Float). firstRefusal (refuse 5 false ∷ refuse 6 (ltb 2 (length l)) ∷ [])) by-2
+two-lent : refusalOf start least greatest (2 over 1) 2 ≡ 6
+unfolding crossed unfit floats
+two-lent = known-refusal start least greatest (2 over 1) 2 threeByTwo by-2 refl
 
-pub three-lent : refusalOf (minus 0x40a0_0000) (minus 0x40d8_0000) (minus 0x3e80_0000) (plus 0x4000_0000) 3 ≡ 0
-unfolding refusalOf unfit crossed neg lt isNan ofBits
-three-lent = ap (λ (l : List Float). firstRefusal (refuse 5 false ∷ refuse 6 (ltb 3 (length l)) ∷ [])) by-2
+three-lent : refusalOf start least greatest (2 over 1) 3 ≡ 0
+unfolding crossed unfit floats
+three-lent = known-refusal start least greatest (2 over 1) 3 threeByTwo by-2 refl
 
 -- a step of 0.01: refusal 5, also where there is no room; and none where the bounds are crossed
-pub fine-step : refusalOf (minus 0x40a0_0000) (minus 0x40d8_0000) (minus 0x3e80_0000) (plus 0x3c23_d70a) 0 ≡ 5
-unfolding refusalOf unfit crossed neg lt isNan ofBits
+fine-step : refusalOf start least greatest (1 over 100) 0 ≡ 5
+unfolding refusalOf unfit crossed floats
 fine-step = refl
 
-pub fine-step-crossed : refusalOf (plus 0) (plus 0x3f80_0000) (minus 0x3f80_0000) (plus 0x3c23_d70a) 1 ≡ 0
-unfolding refusalOf unfit candidatesTo crossed neg lt isNan ofBits
+fine-step-crossed : refusalOf zero32 (1 over 1) (neg (1 over 1)) (1 over 100) 1 ≡ 0
+unfolding refusalOf unfit candidatesTo crossed floats
 fine-step-crossed = refl

@@ -1,7 +1,8 @@
+pub mod Opened
 pub mod Field
-pub mod Positions
+pub mod CaseA
 pub mod Candidates
+pub mod Table
 pub mod Excess
 pub mod Kicker
-pub mod Ball
-pub mod PenaltyPlace
+pub mod Places

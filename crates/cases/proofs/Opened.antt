@@ -1,0 +1,31 @@
+-- Definitions that an evaluation sees through. To unfold one of the two names below is to unfold all that its line names.
+use lib.Ieee.{neg, add, sub, mul, div, lt, le, eq, isNan, fits, ofInt, ofBits, toBits}
+use Rattle.lists.specs.Every.{everyTo}
+use Rattle.lists.specs.Gather.{flatTo}
+use Rattle.lists.specs.Put.{fronted}
+use Rattle.floats.specs.Hypot.{hypot}
+use Rattle.floats.specs.Leaves.{negative, withSign, minimumNumber, maximumNumber, clamp, totalKey}
+use Rattle.game.specs.Players.{listed}
+use Rattle.geometry.specs.Geometry.{marginsOf, computeMargins}
+use Rattle.positioning.specs.Positioning.{isIllegallyPositioned, isInAvoidanceRegion, isAvoidanceRegionActive, kickOffVerdict, attackVerdict, defenceVerdict}
+use Rattle.candidates.specs.Candidates.{crossed, candidatesTo, unfit, firstCandidate}
+use Rattle.selection.specs.Counting.{countTo, firstTo}
+use Rattle.selection.specs.Counts.{playersOnField}
+use Rattle.selection.specs.Excess.{goalAreaExcess}
+use Rattle.selection.specs.Kicker.{determineKickingPlayer}
+use Rattle.motion.specs.Motion.{movedPlayers, referencesAfter}
+use Rattle.ball.specs.Ball.{ballJudgment}
+use Rattle.places.specs.Places.{ballAtRestart, ballInSet, penaltyShotPlace}
+use Rattle.penalty.specs.Penalty.{placeForPenalty}
+use Rattle.refusals.specs.Refusals.{poseFits, refusalOf}
+use Rattle.decision.specs.Decision.{verdictAt, teamVerdicts, emptyList, teamExcess, sideKicker, kickingPlayer, leavingPlayers, ballCalled, restartPlaceOf, setPlaceOf, penaltyPlaceOf, shotPlaceOf, wishedPlace, teamMargins, teamDecision, sideMargins, sideDecision, decisionOf, answerOf}
+
+-- floats and the functions on them
+unfoldable pub floats : Unit {0}
+unfolding neg add sub mul div lt le eq isNan fits ofInt ofBits toBits negative withSign minimumNumber maximumNumber clamp totalKey hypot
+floats = tt
+
+-- an answer, down to the floats
+unfoldable pub answers : Unit {0}
+unfolding floats everyTo flatTo fronted listed marginsOf computeMargins isIllegallyPositioned isInAvoidanceRegion isAvoidanceRegionActive kickOffVerdict attackVerdict defenceVerdict crossed candidatesTo unfit firstCandidate countTo firstTo playersOnField goalAreaExcess determineKickingPlayer movedPlayers referencesAfter ballJudgment ballAtRestart ballInSet penaltyShotPlace placeForPenalty poseFits refusalOf verdictAt teamVerdicts emptyList teamExcess sideKicker kickingPlayer leavingPlayers ballCalled restartPlaceOf setPlaceOf penaltyPlaceOf shotPlaceOf wishedPlace teamMargins teamDecision sideMargins sideDecision decisionOf answerOf
+answers = tt

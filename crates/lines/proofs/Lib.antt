@@ -1,0 +1,4 @@
+mod Back
+mod Digits
+pub mod Over
+pub mod Lines

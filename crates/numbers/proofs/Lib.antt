@@ -1,0 +1,5 @@
+pub mod Stored
+pub mod Bounds
+pub mod Continued
+pub mod Count
+pub mod Cases

@@ -1,0 +1,3 @@
+mod BlockLaws
+mod Written
+mod Answers
