@@ -27,7 +27,7 @@ use Rattle.sheet.specs.declared.text.SheetAnswer.the-variants.{Refused, 
 -- the bytes of a decision's text
 pub text-long : (d : Decision) → length (textOf d) ≡ 45 * length (rowsOf d) + 45
 unfolding textOf sheetRows
-text-long d = length-lines (header (length (rowsOf d)) ∷ rowsOf d) ∙ omega arith
+text-long d = length-lines (sheetRows d) ∙ omega arith
 
 -- too few bytes were lent
 pub decision-refused : (d : Decision) (n : ℕ) (s : List ℕ) → n ≡ length (rowsOf d) → length s < 45 * n + 45 → (Refused 7 ≡ decisionAnswer d (length s)) × (s ≡ decisionSheet d s)
