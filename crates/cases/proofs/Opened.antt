@@ -1,4 +1,4 @@
--- Definitions that an evaluation sees through. To unfold one of the two names below is to unfold all that its line names.
+-- Definitions that an evaluation sees through. To unfold one of the names below is to unfold all that its line names.
 use lib.Ieee.{neg, add, sub, mul, div, lt, le, eq, isNan, fits, ofInt, ofBits, toBits}
 use Rattle.lists.specs.Every.{everyTo}
 use Rattle.lists.specs.Gather.{flatTo}
@@ -19,6 +19,9 @@ use Rattle.places.specs.Places.{ballAtRestart, ballInSet, penaltyShotPlace}
 use Rattle.penalty.specs.Penalty.{placeForPenalty}
 use Rattle.refusals.specs.Refusals.{poseFits, refusalOf}
 use Rattle.decision.specs.Decision.{verdictAt, teamVerdicts, emptyList, teamExcess, sideKicker, kickingPlayer, leavingPlayers, ballCalled, restartPlaceOf, setPlaceOf, penaltyPlaceOf, shotPlaceOf, wishedPlace, teamMargins, teamDecision, sideMargins, sideDecision, decisionOf, answerOf}
+use Rattle.lines.specs.Line.{columnByte, columnsOf, lineOf, linesOf}
+use Rattle.sheet.specs.Rows.{verdictRows, listRows, ballRows, placeRows, rowsOf, sheetRows}
+use Rattle.sheet.specs.Sheet.{textOf, decisionAnswer, decisionSheet, sheetAnswer, sheetAfter}
 
 -- floats and the functions on them
 unfoldable pub floats : Unit {0}
@@ -29,3 +32,8 @@ floats = tt
 unfoldable pub answers : Unit {0}
 unfolding floats everyTo flatTo fronted listed marginsOf computeMargins isIllegallyPositioned isInAvoidanceRegion isAvoidanceRegionActive kickOffVerdict attackVerdict defenceVerdict crossed candidatesTo unfit firstCandidate countTo firstTo playersOnField goalAreaExcess determineKickingPlayer movedPlayers referencesAfter ballJudgment ballAtRestart ballInSet penaltyShotPlace placeForPenalty poseFits refusalOf verdictAt teamVerdicts emptyList teamExcess sideKicker kickingPlayer leavingPlayers ballCalled restartPlaceOf setPlaceOf penaltyPlaceOf shotPlaceOf wishedPlace teamMargins teamDecision sideMargins sideDecision decisionOf answerOf
 answers = tt
+
+-- a sheet, down to the floats
+unfoldable pub sheets : Unit {0}
+unfolding answers columnByte columnsOf lineOf linesOf verdictRows listRows ballRows placeRows rowsOf sheetRows textOf decisionAnswer decisionSheet sheetAnswer sheetAfter
+sheets = tt

@@ -1,8 +1,8 @@
 -- The table of document 01's cases marked with *, in the document's order, on the field of its case A. Above each stands its line of the document.
 -- Each is stated of the answer to a situation, or of the leaf or entry that the line names, and evaluated by the definitions.
 use mathlib.Core.Path.{_≡_, refl}
-use mathlib.Core.List.{List, [], _∷_}
-use Prim.Native.Nat.{ℕ, _^_}
+use mathlib.Core.List.{List, [], _∷_, _++_}
+use Prim.Native.Nat.{ℕ, _+_, _^_}
 use lib.ListN.{replicate}
 use lib.Ieee.{Float, neg}
 use Rattle.floats.specs.Arithmetic.{_+₃₂_, _*₃₂_, zero32, half, pi}
@@ -25,7 +25,6 @@ use Rattle.positioning.specs.declared.Positioning.the-variants.{Legal, Illegal,
 use Rattle.candidates.specs.Candidates.{answerOf as candidatesAnswer}
 use Rattle.ball.specs.declared.BallJudgment.{BallJudgment}
 use Rattle.ball.specs.declared.BallJudgment.the-variants.{NoJudgment, Goal, GoalKick, CornerKick, ThrowIn}
-use Rattle.autoreferee.specs.Codes.{judgmentCode, judgmentSide}
 use Rattle.places.specs.declared.Placement.the-variants.{NoPlace, BallAt, PlayerAt}
 use Rattle.refusals.specs.Refusals.{refusalOf}
 use Rattle.decision.specs.Decision.{sideMargins, decisionOf, answerOf}
@@ -34,7 +33,9 @@ use Rattle.decision.specs.declared.call.Answer.{Answer}
 use Rattle.decision.specs.declared.call.SideDecision.{SideDecision}
 use Rattle.decision.specs.declared.judges.KickingPlayer.the-variants.{NoKicker}
 use Rattle.decision.specs.declared.judges.PlayerVerdict.{PlayerVerdict}
-use Rattle.cases.proofs.Opened.{answers, floats}
+use Rattle.sheet.specs.Sheet.{textOf, sheetAnswer, sheetAfter}
+use Rattle.sheet.specs.declared.text.SheetAnswer.the-variants.{Refused, Written}
+use Rattle.cases.proofs.Opened.{answers, floats, sheets}
 use Rattle.cases.proofs.Field.{_over_, gameIn, at, absent, team, situation}
 use Rattle.cases.proofs.CaseA.{ballAt, withBall, caseA, caseASet, fourAbsent, untouched}
 use Rattle.cases.proofs.Candidates.{lent-by-2, lent-by-1, lent-crossed}
@@ -62,17 +63,36 @@ sideWith excess =
 abbrev pub answered : PlayerList → BallJudgment → Answer
 answered excess ball = record { refusal = 0; decision = record { home = sideWith excess; away = sideWith none; kicker = NoKicker; ball = ball; place = NoPlace } }
 
--- ---- the sheet of A: the place of its text
+-- ---- the lines of document 01's sheet
+-- four numbers of one digit, each right-justified with blanks in 11 columns, then a line feed
+abbrev digit : ℕ → List ℕ
+digit d = replicate 10 32 ++ ((48 + d) ∷ [])
+
+abbrev lineWith : ℕ → ℕ → ℕ → ℕ → List ℕ
+lineWith kind side number value = digit kind ++ digit side ++ digit number ++ digit value ++ (10 ∷ [])
 
 -- ---- * A whole.
 a-whole : answerOf caseA [] [] ≡ answered (only 5) (Goal Away)
 unfolding answers
 a-whole = refl
 
--- the sheet's last line, 6 1 1 0: side 1, code 1
-a-ball-numbers : (judgmentSide (answerOf caseA [] [] .decision .ball) ≡ 1) × (judgmentCode (answerOf caseA [] [] .decision .ball) ≡ 1)
-unfolding answers
-a-ball-numbers = (refl, refl)
+-- its sheet: 0 2 2 1, 2 0 5 1, 6 1 1 0
+abbrev sheetA : List ℕ
+sheetA = lineWith 0 2 2 1 ++ lineWith 2 0 5 1 ++ lineWith 6 1 1 0
+
+a-sheet : textOf (decisionOf caseA [] []) ≡ sheetA
+unfolding sheets
+a-sheet = refl
+
+-- 135 bytes lent do, 134 do not: 135 needed, 134 lent
+a-written : (sheetAnswer caseA [] [] 135 ≡ Written 135) × (sheetAnswer caseA [] [] 134 ≡ Refused 7)
+unfolding sheets
+a-written = (refl, refl)
+
+-- the bytes after the text are kept, and all of them where there is no room
+a-after : (sheetAfter caseA [] [] (replicate 137 7) ≡ sheetA ++ (7 ∷ 7 ∷ [])) × (sheetAfter caseA [] [] (replicate 134 7) ≡ replicate 134 7)
+unfolding sheets
+a-after = (refl, refl)
 
 -- ---- * A in Set: excess 4.
 a-in-set : answerOf caseASet [] [] ≡ answered (only 4) NoJudgment

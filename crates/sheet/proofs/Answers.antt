@@ -4,7 +4,7 @@ use mathlib.Core.Bool.{Bool, true, false, cond}
 use mathlib.Core.List.{List, [], _∷_, _++_, append-nil}
 use Prim.Native.Nat.{ℕ, suc, _+_, _*_, _≤_, _<_}
 use native.Mathlib.Omega.{arith}
-use borrow.Author.Tests.{eq-eqb, ne-eqb, lt-ltb, le-ltb}
+use borrow.Author.Tests.{eq-eqb, ne-eqb, lt-ltb, le-ltb, ltb-false}
 use lib.Dec.{eqb, ltb}
 use lib.Ieee.{Float}
 use lib.ListN.{length}
@@ -20,7 +20,7 @@ use Rattle.lines.specs.Over.{over}
 use Rattle.lines.proofs.Lines.{length-line, length-lines}
 use Rattle.lines.proofs.Over.{over-front, over-then}
 use Rattle.sheet.specs.Rows.{header, rowsOf, sheetRows}
-use Rattle.sheet.specs.Sheet.{textOf, decisionAnswer, decisionSheet, sheetAnswer, sheetAfter}
+use Rattle.sheet.specs.Sheet.{bytesIn, textOf, decisionAnswer, decisionSheet, sheetAnswer, sheetAfter}
 use Rattle.sheet.specs.declared.text.SheetAnswer.{SheetAnswer}
 use Rattle.sheet.specs.declared.text.SheetAnswer.the-variants.{Refused, Written}
 
@@ -76,3 +76,20 @@ module _ (s : Situation) (xs ys : List Float) (a : Answer) (told : a ≡ answerO
       let yes : eqb (refusalOf s xs ys) 0 ≡ true = eq-eqb _ _ (sym refusal-told ∙ h) in
       let same : a .decision ≡ decisionOf s xs ys = ap (λ (z : Answer). z .decision) told ∙ ap (λ (b : Bool). cond b (decisionOf s xs ys) emptyDecision) yes in
       (e ∙ ap (λ (d : Decision). decisionAnswer d (length sheet)) same ∙ simp yes, p ∙ ap (λ (d : Decision). decisionSheet d sheet) same ∙ simp yes)
+
+-- no more bytes are written than were lent
+decision-room : (d : Decision) (lent : ℕ) → bytesIn (decisionAnswer d lent) ≤ lent
+unfolding decisionAnswer
+decision-room d lent = go (ltb lent (length (textOf d))) refl
+  where
+    go : (b : Bool) → ltb lent (length (textOf d)) ≡ b → bytesIn (cond b (Refused 7) (Written (length (textOf d)))) ≤ lent
+    go true t = omega arith
+    go false t = ltb-false lent (length (textOf d)) t
+
+pub sheet-room : (s : Situation) (xs ys : List Float) (lent : ℕ) → bytesIn (sheetAnswer s xs ys lent) ≤ lent
+unfolding sheetAnswer
+sheet-room s xs ys lent = go (eqb (refusalOf s xs ys) 0)
+  where
+    go : (b : Bool) → bytesIn (cond b (decisionAnswer (decisionOf s xs ys) lent) (Refused (refusalOf s xs ys))) ≤ lent
+    go true = decision-room (decisionOf s xs ys) lent
+    go false = omega arith

@@ -1,3 +1,3 @@
 mod BlockLaws
 mod Written
-mod Answers
+pub mod Answers

@@ -15,6 +15,11 @@ use Rattle.sheet.specs.Rows.{sheetRows}
 use Rattle.sheet.specs.declared.text.SheetAnswer.{SheetAnswer}
 use Rattle.sheet.specs.declared.text.SheetAnswer.the-variants.{Refused, Written}
 
+-- the number of bytes that an answer tells of
+abbrev pub bytesIn : SheetAnswer → ℕ
+bytesIn (Refused n) = 0
+bytesIn (Written n) = n
+
 -- the text of a decision
 unfoldable pub textOf : Decision → List ℕ
 textOf d = linesOf (sheetRows d)

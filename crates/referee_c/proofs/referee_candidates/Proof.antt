@@ -1,0 +1,71 @@
+use denote.Ref.{now}
+use mathlib.Core.Path.{_≡_, ap, sym, _∙_}
+use Prim.Native.Nat.{ℕ, _<_, _≤_}
+use native.Mathlib.Omega.{arith}
+use lib.ListN.{length}
+use mir.Syntax.{w64}
+use mir.ValLaws.{toZ-ofZ}
+use Rattle.referee_c.specs.Entries.{minus}
+use Rattle.referee_c.proofs.Signed.{count-fits, count-read}
+use Rattle.referee_c.proofs.EntryLaws.{none-filled, some-filled, front-fits}
+use borrow.Author.Needs.{needs}
+use Rattle.referee_c.proofs.referee_candidates.Statement.{statement}
+use Rattle.referee_c.proofs.referee_candidates.Tie as tie
+
+fill-candidates-requires : tie.Need-fill-candidates-requires
+fill-candidates-requires c κs = search needs
+
+candidates-refusal-requires : tie.Need-candidates-refusal-requires
+candidates-refusal-requires c κs = search needs
+
+minus-requires : tie.Need-minus-requires
+minus-requires c κs = search needs
+
+same-length : tie.Need-same-length
+same-length c = search needs
+
+returns : tie.Need-returns
+returns c = let s = c .before .before .before .before .before .before .before .before in
+    let a = s .args in
+    let call = c .before .before .before .before .before .fill-candidates in (
+      toZ-ofZ w64 (c .minus .result) (search needs)
+          ∙ c .minus .ensures
+          ∙ ap minus (c .before .candidates-refusal .ensures)
+          ∙ none-filled (a .start) (a .min) (a .max) (a .step) (length (now (a .list))) (call .result) (call .ensures .0) (c .before .before .if1 .taken),
+      call .ensures .1,
+    )
+
+-- as many as the list has places for, and so an i64
+few : (c : tie.After-fill-candidates) → c .fill-candidates .result < 9223372036854775808
+few c =
+    let s = c .before .before .before in
+    let call = c .fill-candidates in
+    omega (arith, call .ensures .0, front-fits _ (now (s .args .list)) _ (call .ensures .1) (call .kept .1 .1 .1 .1 .0))
+
+cast-result : tie.Need-cast-result
+cast-result c = count-fits _ (few (c .before .before .before))
+
+same-length-2 : tie.Need-same-length-2
+same-length-2 c = search needs
+
+returns-2 : tie.Need-returns-2
+returns-2 c = let s = c .before .before .before .before .before .before in
+    let a = s .args in
+    let call = c .before .before .before .fill-candidates in (
+      count-read _ (few (c .before .before .before))
+          ∙ some-filled (a .start) (a .min) (a .max) (a .step) (length (now (a .list))) (call .result) (call .ensures .0) (c .if1 .left),
+      call .ensures .1,
+    )
+
+pub referee-candidates-spec : {M : Type 1} → statement M
+referee-candidates-spec =
+    tie.close
+    (tie.spec
+    fill-candidates-requires
+    candidates-refusal-requires
+    minus-requires
+    same-length
+    returns
+    cast-result
+    same-length-2
+    returns-2)

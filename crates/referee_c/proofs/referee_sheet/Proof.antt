@@ -1,0 +1,67 @@
+use mathlib.Core.Path.{_≡_, ap, sym, subst, _∙_}
+use Prim.Native.Nat.{_≤_}
+use native.Mathlib.Omega.{arith}
+use mir.Syntax.{w64}
+use mir.ValLaws.{toZ-ofZ}
+use Rattle.sheet.specs.Sheet.{bytesIn}
+use Rattle.sheet.specs.declared.text.SheetAnswer.{SheetAnswer}
+use Rattle.sheet.proofs.Answers.{sheet-room}
+use Rattle.referee_c.proofs.EntryLaws.{a-situation, no-situation}
+use denote.Ref.{now}
+use Prim.Native.Nat.{_<_}
+use lib.ListN.{length}
+use borrow.Author.Needs.{needs}
+use Rattle.referee_c.proofs.referee_sheet.Statement.{statement}
+use Rattle.referee_c.proofs.referee_sheet.Tie as tie
+
+is-situation-requires : tie.Need-is-situation-requires
+is-situation-requires c κs = search needs
+
+situation-of-requires : tie.Need-situation-of-requires
+situation-of-requires c κs = search needs
+
+write-sheet-requires : tie.Need-write-sheet-requires
+write-sheet-requires c κs = search needs
+
+room : (c : tie.Start) → length (now (c .args .sheet)) < 9223372036854775808
+room c = search needs
+
+answer-number-requires : tie.Need-answer-number-requires
+answer-number-requires c κs =
+    let s = c .before .before .before .before .before .before .before .before .before .before .before in
+    let call = c .before .before .write-sheet in
+    let told : bytesIn (call .result) ≤ length (now (s .args .sheet)) = subst (λ (a : SheetAnswer). bytesIn a ≤ length (now (s .args .sheet))) (sym (call .ensures .0)) (sheet-room _ _ _ _) in
+    omega (arith, told, room s)
+
+same-length : tie.Need-same-length
+same-length c = search needs
+
+returns : tie.Need-returns
+returns c =
+    let s = c .before .before .before .before .before .before .before .before .before .before .before .before in
+    let call = c .before .before .before .write-sheet in
+    let told = a-situation (now (s .args .words)) (now (s .args .xs)) (now (s .args .ys)) (now (s .args .sheet)) _ (call .result) _ (sym (c .before .before .before .before .before .before .before .is-situation .ensures) ∙ c .before .before .before .before .before .before .if1 .taken)
+    (c .before .before .before .before .before .situation-of .ensures) (call .ensures .0) (call .ensures .1) in
+    (toZ-ofZ w64 (c .answer-number .result) (search needs) ∙ c .answer-number .ensures ∙ told .0, told .1)
+
+minus-requires : tie.Need-minus-requires
+minus-requires c κs = search needs
+
+returns-2 : tie.Need-returns-2
+returns-2 c =
+    let s = c .before .before .before .before .before .before .before in
+    let told = no-situation (now (s .args .words)) (now (s .args .xs)) (now (s .args .ys)) (now (s .args .sheet)) (sym (c .before .before .is-situation .ensures) ∙ c .before .if1 .left) in
+    (toZ-ofZ w64 (c .minus .result) (search needs) ∙ c .minus .ensures ∙ told .0, told .1)
+
+pub referee-sheet-spec : {M : Type 1} → statement M
+referee-sheet-spec =
+    tie.close
+    (tie.spec
+    is-situation-requires
+    situation-of-requires
+    write-sheet-requires
+    answer-number-requires
+    same-length
+    returns
+    minus-requires
+    returns-2)

@@ -1,0 +1,36 @@
+-- What the C entries answer: a refusal n as -n, and -100 for words that are no situation. Definitions only.
+use mathlib.Core.Bool.{cond}
+use mathlib.Core.List.{List}
+use Prim.Native.Nat.{ℕ}
+use lib.Dec.{eqb}
+use lib.Ieee.{Float}
+use lib.IntN.{ℤ, pos, negℤ}
+use lib.ListN.{length}
+use Rattle.candidates.specs.Candidates.{refusalOf, answerOf}
+use Rattle.columns.specs.Columns.{isSituation}
+use Rattle.words.specs.Words.{situationOf}
+use Rattle.sheet.specs.Sheet.{sheetAnswer, sheetAfter}
+use Rattle.sheet.specs.declared.text.SheetAnswer.{SheetAnswer}
+use Rattle.sheet.specs.declared.text.SheetAnswer.the-variants.{Refused, Written}
+
+-- -n
+abbrev pub minus : ℕ → ℤ
+minus n = negℤ (pos n)
+
+-- of the sheet's answer
+abbrev pub answerNumber : SheetAnswer → ℤ
+answerNumber (Refused n) = minus n
+answerNumber (Written n) = pos n
+
+-- of words, the earlier places and the number of bytes lent
+unfoldable pub sheetNumber : List ℕ → List Float → List Float → ℕ → ℤ
+sheetNumber ws xs ys lent = cond (isSituation ws) (answerNumber (sheetAnswer (situationOf ws) xs ys lent)) (minus 100)
+
+-- the lent bytes after the call; what is no situation changes nothing
+unfoldable pub sheetBytes : List ℕ → List Float → List Float → List ℕ → List ℕ
+sheetBytes ws xs ys sheet = cond (isSituation ws) (sheetAfter (situationOf ws) xs ys sheet) sheet
+
+-- how many candidates there are; none means a refusal
+unfoldable pub candidatesNumber : Float → Float → Float → Float → ℕ → ℤ
+candidatesNumber start min max step lent =
+    cond (eqb (length (answerOf start min max step lent)) 0) (minus (refusalOf start min max step lent)) (pos (length (answerOf start min max step lent)))

@@ -1,0 +1,3 @@
+mod Decimal
+pub mod Pieces
+mod Cases

@@ -1,0 +1,83 @@
+-- A text written piece by piece at the front of lent bytes. Assumes nothing.
+use mathlib.Core.Path.{_≡_, refl, sym, ap, subst, _∙_}
+use mathlib.Core.Bool.{Bool, true, false}
+use mathlib.Core.List.{List, [], _∷_, _++_, append-assoc}
+use Prim.Native.Nat.{ℕ, _+_, _-_, _≤_, _<_}
+use native.Mathlib.Omega.{arith}
+use borrow.Author.Tests.{lt-ltb, le-ltb, ltb-true, ltb-false}
+use lib.Dec.{ltb}
+use lib.ListN.{length, take, drop, length-append}
+use lib.Seq.{take-length}
+use Rattle.lists.specs.Put.{fronted}
+use Rattle.lines.specs.Over.{over}
+use Rattle.lines.proofs.Over.{over-front, over-then, over-part}
+use Rattle.replies.specs.Replies.{decimalOf, numbered, lineIn, writtenIn}
+
+-- what a copy into the part from a place on leaves
+pub piece-over : (xs l ys : List ℕ) (at : ℕ) → ys ≡ take (length l) l ++ drop (length l) (take (length xs - at) (drop at xs))
+    → take at xs ++ (ys ++ drop (length xs - at) (drop at xs)) ≡ over at l xs
+unfolding fronted
+piece-over xs l ys at e = over-part xs l ys at (e ∙ ap (λ (t : List ℕ). t ++ drop (length l) (take (length xs - at) (drop at xs))) (take-length l))
+
+-- the bytes cur are s with a text at its front, which ends at n
+pub record Stage (s text cur : List ℕ) (n : ℕ) : Type 0 where
+  pub written : cur ≡ over 0 text s
+  pub end : n ≡ length text
+  pub long : length cur ≡ length s
+
+-- the first piece
+pub stage-first : (s a cur : List ℕ) (n : ℕ) → cur ≡ over 0 a s → n ≡ 0 + length a → length cur ≡ length s → Stage s a cur n
+stage-first s a cur n p q l = record { written = p; end = omega arith; long = l }
+
+-- one more piece
+pub stage-next : {s a cur : List ℕ} {n : ℕ} (b next : List ℕ) (m : ℕ) → Stage s a cur n → n ≤ length s → next ≡ over n b cur → m ≡ n + length b → length next ≡ length cur → Stage s (a ++ b) next m
+stage-next {s} {a} {cur} {n} b next m e room p q l =
+    record {
+      written = p ∙ ap (over n b) (e .written) ∙ over-then 0 n a b s (omega (arith, e .end)) room;
+      end = omega (arith, q, e .end, length-append a b);
+      long = l ∙ e .long;
+    }
+
+-- where there is no room
+pub text-short : (text s : List ℕ) → length s < length text → (0 ≡ writtenIn text s) × (s ≡ lineIn text s)
+unfolding writtenIn lineIn
+text-short text s h = (simp (lt-ltb (length s) (length text) h), simp (lt-ltb (length s) (length text) h))
+
+-- where there is: the length, and the bytes
+written-length : (text s : List ℕ) → length text ≤ length s → writtenIn text s ≡ length text
+unfolding writtenIn
+written-length text s h = simp (le-ltb (length s) (length text) h)
+
+line-front : (text s : List ℕ) → length text ≤ length s → lineIn text s ≡ fronted text s
+unfolding lineIn
+line-front text s h = simp (le-ltb (length s) (length text) h)
+
+-- where there is, and the text is written
+pub text-fits : (text s cur : List ℕ) (n : ℕ) → length text ≤ length s → Stage s text cur n → (n ≡ writtenIn text s) × (cur ≡ lineIn text s)
+text-fits text s cur n h e = (e .end ∙ sym (written-length text s h), e .written ∙ over-front text s ∙ sym (line-front text s h))
+
+-- no more is written than is lent
+pub written-low : (text s : List ℕ) → writtenIn text s ≤ length s
+written-low text s = go (ltb (length s) (length text)) refl
+  where
+    go : (b : Bool) → ltb (length s) (length text) ≡ b → writtenIn text s ≤ length s
+    go true e = omega (arith, text-short text s (ltb-true _ _ e) .0)
+    go false e = let fits : length text ≤ length s = ltb-false _ _ e in omega (arith, written-length text s fits)
+
+module _ (word : List ℕ) (n : ℕ) (digits colon reason : List ℕ) (count : ℕ) (told : digits ≡ decimalOf n) (counted : count ≡ length digits) (s : List ℕ) where
+  -- the pieces of a line with a number
+  pieces-line : (((word ++ digits) ++ colon) ++ reason) ++ (10 ∷ []) ≡ numbered word n (colon ++ reason)
+  unfolding numbered
+  pieces-line = simp (told, append-assoc)
+
+  length-numbered : length (numbered word n (colon ++ reason)) ≡ length word + count + length colon + length reason + 1
+  length-numbered = ap length (sym pieces-line) ∙ simp (length-append, counted)
+
+  -- where there is no room
+  pub numbered-short : length s < length word + count + length colon + length reason + 1 → (0 ≡ writtenIn (numbered word n (colon ++ reason)) s) × (s ≡ lineIn (numbered word n (colon ++ reason)) s)
+  numbered-short h = text-short (numbered word n (colon ++ reason)) s (omega (arith, length-numbered))
+
+  -- where there is, and all the pieces are written
+  pub numbered-fits : (cur : List ℕ) (m : ℕ) → length word + count + length colon + length reason + 1 ≤ length s → Stage s ((((word ++ digits) ++ colon) ++ reason) ++ (10 ∷ [])) cur m
+      → (m ≡ writtenIn (numbered word n (colon ++ reason)) s) × (cur ≡ lineIn (numbered word n (colon ++ reason)) s)
+  numbered-fits cur m h e = text-fits (numbered word n (colon ++ reason)) s cur m (omega (arith, length-numbered)) (subst (λ (t : List ℕ). Stage s t cur m) pieces-line e)
