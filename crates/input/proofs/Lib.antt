@@ -1,0 +1,4 @@
+pub mod Stored
+pub mod Filled
+pub mod Places
+pub mod Cases
