@@ -138,13 +138,6 @@ fn case_a() -> Situation {
     }
 }
 
-// Writes the first n bytes.
-fn print_front(text: &[u8], n: usize) {
-    if n <= text.len() {
-        io::write_all(STDOUT_FILENO, &text[..n]);
-    }
-}
-
 fn main() {
     let s = case_a();
     let xs = [0.0f32; 1];
@@ -156,7 +149,7 @@ fn main() {
             io::write_all(STDOUT_FILENO, b"refused\n");
         }
         SheetAnswer::Written(n) => {
-            print_front(&text, n);
+            io::write_all(STDOUT_FILENO, replies::front(&text, n));
         }
     }
 }

@@ -8,13 +8,6 @@ const ROOM: usize = 262144;
 // Room for the longest sheet, 166 lines of 45 bytes.
 const SHEET: usize = 7470;
 
-// Writes the first n bytes.
-fn print_front(text: &[u8], n: usize) {
-    if n <= text.len() {
-        io::write_all(STDOUT_FILENO, &text[..n]);
-    }
-}
-
 fn main() {
     let mut text = [0u8; ROOM];
     let n = io::read_full(STDIN_FILENO, &mut text);
@@ -24,5 +17,5 @@ fn main() {
     }
     let mut out = [0u8; SHEET];
     let m = desk::judge(&text[..n], &mut out);
-    print_front(&out, m);
+    io::write_all(STDOUT_FILENO, replies::front(&out, m));
 }

@@ -21,13 +21,6 @@ fn put_zeros(text: &mut [u8], n: usize)
     }
 }
 
-// Writes the first n bytes.
-fn print_front(text: &[u8], n: usize) {
-    if n <= text.len() {
-        io::write_all(STDOUT_FILENO, &text[..n]);
-    }
-}
-
 // The text of so many zeros and the tail at the front; answers its length, or 0 where it has no room.
 fn put_text(text: &mut [u8], zeros: usize, tail: &[u8]) -> usize
     ensures { λ r. ⌜ r ≤ length (now (text .exit)) ⌝ }
@@ -52,7 +45,7 @@ fn run(zeros: usize, tail: &[u8]) {
     let n = put_text(&mut text, zeros, tail);
     let mut out = [0u8; 7470];
     let m = desk::judge(&text[..n], &mut out);
-    print_front(&out, m);
+    io::write_all(STDOUT_FILENO, replies::front(&out, m));
 }
 
 fn main() {

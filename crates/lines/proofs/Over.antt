@@ -5,7 +5,7 @@ use Prim.Native.Nat.{ℕ, suc, _+_, _-_, _≤_, _<_}
 use native.Mathlib.Nat.{add-assoc, zero-add}
 use native.Mathlib.Numerals.{add-one}
 use native.Mathlib.Omega.{arith}
-use lib.ListN.{length, take, drop, set, length-append, length-drop}
+use lib.ListN.{length, take, drop, set, length-append, length-drop, take-append-drop}
 use lib.Seq.{take-at, drop-append-add, drop-drop, set-split, length-take-le}
 use Rattle.lists.specs.Put.{fronted}
 use Rattle.lists.proofs.Part.{part-back}
@@ -55,3 +55,28 @@ module _ {A : Type 0} where
   pub over-part : (xs l ys : List A) (at : ℕ) → ys ≡ fronted l (take (length xs - at) (drop at xs)) → take at xs ++ (ys ++ drop (length xs - at) (drop at xs)) ≡ over at l xs
   unfolding over fronted
   over-part xs l ys at e = part-back xs l ys at (length l) e
+
+  -- nothing is written
+  pub over-none : (at : ℕ) (s : List A) → s ≡ over at [] s
+  unfolding over
+  over-none at s = sym (take-append-drop at s) ∙ let same : at ≡ at + 0 = omega arith in ap (λ (k : ℕ). take at s ++ drop k s) same
+
+  -- ---- a text written piece by piece
+  -- the list cur is s with the text written over it from the place at on, and the text ends at n
+  pub record Stage (at : ℕ) (s text cur : List A) (n : ℕ) : Type 0 where
+    pub written : cur ≡ over at text s
+    pub end : n ≡ at + length text
+    pub long : length cur ≡ length s
+
+  -- before the first piece
+  pub stage-none : (at : ℕ) (s : List A) → Stage at s [] s at
+  stage-none at s = record { written = over-none at s; end = omega arith; long = refl }
+
+  -- one more piece
+  pub stage-next : {at n : ℕ} {s text cur : List A} (piece next : List A) (m : ℕ) → Stage at s text cur n → n ≤ length s → next ≡ over n piece cur → m ≡ n + length piece → length next ≡ length cur → Stage at s (text ++ piece) next m
+  stage-next {at} {n} {s} {text} {cur} piece next m e room p q l =
+      record {
+        written = p ∙ ap (over n piece) (e .written) ∙ over-then at n text piece s (e .end) room;
+        end = omega (arith, q, e .end, length-append text piece);
+        long = l ∙ e .long;
+      }

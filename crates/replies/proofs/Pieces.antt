@@ -3,6 +3,7 @@ use mathlib.Core.Path.{_≡_, refl, sym, ap, subst, _∙_}
 use mathlib.Core.Bool.{Bool, true, false}
 use mathlib.Core.List.{List, [], _∷_, _++_, append-assoc}
 use Prim.Native.Nat.{ℕ, _+_, _-_, _≤_, _<_}
+use native.Mathlib.Nat.{zero-add}
 use native.Mathlib.Omega.{arith}
 use borrow.Author.Tests.{lt-ltb, le-ltb, ltb-true, ltb-false}
 use lib.Dec.{ltb}
@@ -10,7 +11,7 @@ use lib.ListN.{length, take, drop, length-append}
 use lib.Seq.{take-length}
 use Rattle.lists.specs.Put.{fronted}
 use Rattle.lines.specs.Over.{over}
-use Rattle.lines.proofs.Over.{over-front, over-then, over-part}
+use Rattle.lines.proofs.Over.{over-front, over-part, Stage}
 use Rattle.replies.specs.Replies.{decimalOf, numbered, lineIn, writtenIn}
 
 -- what a copy into the part from a place on leaves
@@ -18,25 +19,6 @@ pub piece-over : (xs l ys : List ℕ) (at : ℕ) → ys ≡ take (length l) l ++
     → take at xs ++ (ys ++ drop (length xs - at) (drop at xs)) ≡ over at l xs
 unfolding fronted
 piece-over xs l ys at e = over-part xs l ys at (e ∙ ap (λ (t : List ℕ). t ++ drop (length l) (take (length xs - at) (drop at xs))) (take-length l))
-
--- the bytes cur are s with a text at its front, which ends at n
-pub record Stage (s text cur : List ℕ) (n : ℕ) : Type 0 where
-  pub written : cur ≡ over 0 text s
-  pub end : n ≡ length text
-  pub long : length cur ≡ length s
-
--- the first piece
-pub stage-first : (s a cur : List ℕ) (n : ℕ) → cur ≡ over 0 a s → n ≡ 0 + length a → length cur ≡ length s → Stage s a cur n
-stage-first s a cur n p q l = record { written = p; end = omega arith; long = l }
-
--- one more piece
-pub stage-next : {s a cur : List ℕ} {n : ℕ} (b next : List ℕ) (m : ℕ) → Stage s a cur n → n ≤ length s → next ≡ over n b cur → m ≡ n + length b → length next ≡ length cur → Stage s (a ++ b) next m
-stage-next {s} {a} {cur} {n} b next m e room p q l =
-    record {
-      written = p ∙ ap (over n b) (e .written) ∙ over-then 0 n a b s (omega (arith, e .end)) room;
-      end = omega (arith, q, e .end, length-append a b);
-      long = l ∙ e .long;
-    }
 
 -- where there is no room
 pub text-short : (text s : List ℕ) → length s < length text → (0 ≡ writtenIn text s) × (s ≡ lineIn text s)
@@ -53,8 +35,8 @@ unfolding lineIn
 line-front text s h = simp (le-ltb (length s) (length text) h)
 
 -- where there is, and the text is written
-pub text-fits : (text s cur : List ℕ) (n : ℕ) → length text ≤ length s → Stage s text cur n → (n ≡ writtenIn text s) × (cur ≡ lineIn text s)
-text-fits text s cur n h e = (e .end ∙ sym (written-length text s h), e .written ∙ over-front text s ∙ sym (line-front text s h))
+pub text-fits : (text s cur : List ℕ) (n : ℕ) → length text ≤ length s → Stage 0 s text cur n → (n ≡ writtenIn text s) × (cur ≡ lineIn text s)
+text-fits text s cur n h e = (e .end ∙ zero-add (length text) ∙ sym (written-length text s h), e .written ∙ over-front text s ∙ sym (line-front text s h))
 
 -- no more is written than is lent
 pub written-low : (text s : List ℕ) → writtenIn text s ≤ length s
@@ -78,6 +60,6 @@ module _ (word : List ℕ) (n : ℕ) (digits colon reason : List ℕ) (count : �
   numbered-short h = text-short (numbered word n (colon ++ reason)) s (omega (arith, length-numbered))
 
   -- where there is, and all the pieces are written
-  pub numbered-fits : (cur : List ℕ) (m : ℕ) → length word + count + length colon + length reason + 1 ≤ length s → Stage s ((((word ++ digits) ++ colon) ++ reason) ++ (10 ∷ [])) cur m
+  pub numbered-fits : (cur : List ℕ) (m : ℕ) → length word + count + length colon + length reason + 1 ≤ length s → Stage 0 s ((((word ++ digits) ++ colon) ++ reason) ++ (10 ∷ [])) cur m
       → (m ≡ writtenIn (numbered word n (colon ++ reason)) s) × (cur ≡ lineIn (numbered word n (colon ++ reason)) s)
-  numbered-fits cur m h e = text-fits (numbered word n (colon ++ reason)) s cur m (omega (arith, length-numbered)) (subst (λ (t : List ℕ). Stage s t cur m) pieces-line e)
+  numbered-fits cur m h e = text-fits (numbered word n (colon ++ reason)) s cur m (omega (arith, length-numbered)) (subst (λ (t : List ℕ). Stage 0 s t cur m) pieces-line e)

@@ -2,7 +2,7 @@
 ghost use mathlib.Core.Path.{_≡_};
 ghost use mathlib.Core.List.{_++_};
 ghost use Prim.Native.Nat.{_+_, _≤_};
-ghost use lib.ListN.{length};
+ghost use lib.ListN.{length, take};
 ghost use Rattle.lines.specs.Over.{over};
 ghost use Rattle.replies.specs.Replies as Spec;
 
@@ -52,13 +52,12 @@ pub fn refused_line(refusal: u8, out: &mut [u8]) -> usize
     numbered(b"refused ", refusal as u64, b"", b"", out)
 }
 
-// A text as it is; the same where the lent bytes are too few.
-pub fn text_line(text: &[u8], out: &mut [u8]) -> usize
-    ensures { λ r. ⌜ r ≡ Spec.writtenIn (now (text .entry)) (now (out .entry)) ⌝ }
-    ensures { λ _. ⌜ now (out .exit) ≡ Spec.lineIn (now (text .entry)) (now (out .entry)) ⌝ }
+// The first n bytes of a text, all of it where it has fewer.
+pub fn front(text: &[u8], n: usize) -> &[u8]
+    ensures { λ r. ⌜ now r ≡ take n (now (text .entry)) ⌝ }
 {
-    if out.len() < text.len() {
-        return 0;
+    if n < text.len() {
+        return &text[..n];
     }
-    put(out, 0, text)
+    text
 }

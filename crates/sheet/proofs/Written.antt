@@ -11,7 +11,7 @@ use Rattle.lists.proofs.Gather.{length-flat}
 use Rattle.lines.specs.declared.Row.{Row}
 use Rattle.lines.specs.Line.{lineOf, linesOf}
 use Rattle.lines.specs.Over.{over}
-use Rattle.lines.proofs.Over.{over-then, length-over}
+use Rattle.lines.proofs.Over.{over-none, over-then, Stage, stage-none, stage-next}
 use Rattle.lines.proofs.Lines.{length-line, length-lines, lines-append}
 use Rattle.sheet.specs.Blocks.{blockRow, blockRows, Few, allRows}
 use Rattle.sheet.specs.declared.blocks.Block.{Block}
@@ -30,11 +30,6 @@ counted b =
     + (b .«home_leaving» .count + b .«away_leaving» .count)
     + (b .«home_moved» .count + b .«away_moved» .count)
     + b .ball .count
-
--- nothing is written
-pub over-none : (at : ℕ) (s : List ℕ) → s ≡ over at [] s
-unfolding over
-over-none at s = sym (take-append-drop at s) ∙ let same : at ≡ at + 0 = omega arith in ap (λ (k : ℕ). take at s ++ drop k s) same
 
 -- the bytes of a block
 pub block-bytes : (b : Block) → length (linesOf (blockRows b)) ≡ 45 * b .count
@@ -64,32 +59,21 @@ module _ (b : Block) (at : ℕ) (s : List ℕ) where
   lines-done i cur low high e =
       e ∙ ap (λ (k : ℕ). over at (flatTo k bytesAt) s) (le-antisymm low high) ∙ ap (λ (t : List ℕ). over at t s) (table-lines (b .count) (blockRow b))
 
--- the sheet cur is s with these lines written from the place at on, and they end at n
-pub record Stage (at : ℕ) (s : List ℕ) (rows : List Row) (cur : List ℕ) (n : ℕ) : Type 0 where
-  pub text : cur ≡ over at (linesOf rows) s
-  pub end : n ≡ at + 45 * length rows
-  pub long : length cur ≡ length s
-
--- before any line
-pub stage-none : (at : ℕ) (s : List ℕ) → Stage at s [] s at
-unfolding linesOf
-stage-none at s = record { text = over-none at s; end = omega arith; long = refl }
-
 -- more lines
-pub stage-next : (at n m : ℕ) (s cur next : List ℕ) (a b : List Row) → Stage at s a cur n → n ≤ length s → next ≡ over n (linesOf b) cur → m ≡ n + 45 * length b → length next ≡ length cur → Stage at s (a ++ b) next m
-stage-next at n m s cur next a b e room p q l =
-    let ends : n ≡ at + length (linesOf a) = e .end ∙ ap (λ (k : ℕ). at + k) (sym (length-lines a)) in
-    record {
-      text = p ∙ ap (over n (linesOf b)) (e .text) ∙ over-then at n (linesOf a) (linesOf b) s ends room ∙ ap (λ (t : List ℕ). over at t s) (sym (lines-append a b));
-      end = omega (arith, q, e .end, length-append a b);
-      long = l ∙ e .long;
-    }
+pub rows-next : (at n m : ℕ) (s cur next : List ℕ) (a b : List Row) → Stage at s (linesOf a) cur n → n ≤ length s → next ≡ over n (linesOf b) cur → m ≡ n + 45 * length b → length next ≡ length cur → Stage at s (linesOf (a ++ b)) next m
+rows-next at n m s cur next a b e room p q l =
+    subst (λ (t : List ℕ). Stage at s t next m) (sym (lines-append a b)) (stage-next (linesOf b) next m e room p (q ∙ ap (λ (k : ℕ). n + k) (sym (length-lines b))) l)
 
 -- one more line, that of r
-pub stage-line : (at n : ℕ) (s cur next : List ℕ) (a : List Row) (q r : Row) → Stage at s a cur n → n ≤ length s → next ≡ over n (lineOf q) cur → q ≡ r → length next ≡ length cur → Stage at s (a ++ (r ∷ [])) next (n + 45)
+pub row-next : (at n : ℕ) (s cur next : List ℕ) (a : List Row) (q r : Row) → Stage at s (linesOf a) cur n → n ≤ length s → next ≡ over n (lineOf q) cur → q ≡ r → length next ≡ length cur → Stage at s (linesOf (a ++ (r ∷ []))) next (n + 45)
 unfolding linesOf
-stage-line at n s cur next a q r e room p same l =
-    stage-next at n (n + 45) s cur next a (r ∷ []) e room (p ∙ ap (λ (t : Row). over n (lineOf t) cur) same ∙ ap (λ (t : List ℕ). over n t cur) (sym (append-nil (lineOf r)))) (omega arith) l
+row-next at n s cur next a q r e room p same l =
+    rows-next at n (n + 45) s cur next a (r ∷ []) e room (p ∙ ap (λ (t : Row). over n (lineOf t) cur) same ∙ ap (λ (t : List ℕ). over n t cur) (sym (append-nil (lineOf r)))) (omega arith) l
+
+-- before any line
+pub rows-none : (at : ℕ) (s : List ℕ) → Stage at s (linesOf []) s at
+unfolding linesOf
+rows-none at s = stage-none at s
 
 -- no more lines than the blocks have places for
 pub few-lines : (b : Blocks) → Few b → counted b ≤ 200

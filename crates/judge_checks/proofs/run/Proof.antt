@@ -1,6 +1,6 @@
+use borrow.Author.Needs.{needs}
 use mathlib.Core.Path.{sym}
 use lib.Seq.{length-take-le}
-use borrow.Author.Needs.{needs}
 use Rattle.judge_checks.proofs.run.Statement.{statement}
 use Rattle.judge_checks.proofs.run.Tie as tie
 
@@ -22,11 +22,14 @@ slice-aggregate-judge-2 c = search needs
 judge-requires : tie.Need-judge-requires
 judge-requires c κs = search needs
 
-slice-aggregate-print-front : tie.Need-slice-aggregate-print-front
-slice-aggregate-print-front c = search needs
+slice-aggregate-front : tie.Need-slice-aggregate-front
+slice-aggregate-front c = search needs
 
-print-front-requires : tie.Need-print-front-requires
-print-front-requires c κs = search needs
+front-requires : tie.Need-front-requires
+front-requires c κs = search needs
+
+write-all-requires : tie.Need-write-all-requires
+write-all-requires c κs = search needs
 
 returns : tie.Need-returns
 returns c = search needs
@@ -41,6 +44,7 @@ run-spec =
     slice-aggregate-judge
     slice-aggregate-judge-2
     judge-requires
-    slice-aggregate-print-front
-    print-front-requires
+    slice-aggregate-front
+    front-requires
+    write-all-requires
     returns)

@@ -4,7 +4,8 @@ use Prim.Native.Nat.{_≤_}
 use native.Mathlib.Omega.{arith}
 use borrow.Author.Needs.{needs}
 use Rattle.replies.proofs.Decimal.{fewest-few, decimal-told}
-use Rattle.replies.proofs.Pieces.{stage-first, stage-next, numbered-short, numbered-fits}
+use Rattle.lines.proofs.Over.{stage-none, stage-next}
+use Rattle.replies.proofs.Pieces.{numbered-short, numbered-fits}
 use Rattle.replies.proofs.numbered.Statement.{statement}
 use Rattle.replies.proofs.numbered.Tie as tie
 
@@ -71,7 +72,7 @@ returns-2 c =
     let here = p1 .before .before in
     let d = here .before .decimal in
     let s = here .before .before .before .before .before .before .before in
-    let a = stage-first _ _ _ _ (p1 .put .ensures .1) (p1 .put .ensures .0) (p1 .put .kept .0) in
+    let a = stage-next _ _ _ (stage-none 0 (now (s .args .out))) (search needs) (p1 .put .ensures .1) (p1 .put .ensures .0) (p1 .put .kept .0) in
     let b = stage-next _ _ _ a (search needs) (p2 .put2 .ensures .1) (p2 .put2 .ensures .0) (p2 .put2 .kept .0) in
     let e = stage-next _ _ _ b (search needs) (p3 .put3 .ensures .1) (p3 .put3 .ensures .0) (p3 .put3 .kept .0) in
     let f = stage-next _ _ _ e (search needs) (p4 .put4 .ensures .1) (p4 .put4 .ensures .0) (p4 .put4 .kept .0) in

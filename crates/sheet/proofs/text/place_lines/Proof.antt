@@ -1,6 +1,6 @@
 use Rattle.sheet.specs.Rows.{placeRows}
 use Rattle.lines.specs.Line.{linesOf}
-use Rattle.sheet.proofs.Written.{over-none}
+use Rattle.lines.proofs.Over.{over-none}
 use borrow.Author.Needs.{needs}
 use Rattle.sheet.proofs.text.place_lines.Statement.{statement}
 use Rattle.sheet.proofs.text.place_lines.Tie as tie

@@ -5,7 +5,7 @@ use Prim.Native.Nat.{_+_}
 use native.Mathlib.Omega.{arith}
 use lib.Ieee.{binary32, toBits}
 use Rattle.sheet.specs.Rows.{row}
-use Rattle.sheet.proofs.Written.{stage-none, stage-line}
+use Rattle.sheet.proofs.Written.{rows-none, row-next}
 use borrow.Author.Needs.{needs}
 use Rattle.sheet.proofs.text.three_lines.Statement.{statement}
 use Rattle.sheet.proofs.text.three_lines.Tie as tie
@@ -49,10 +49,10 @@ returns c = let s = c .before .before .before .before .before .before .before .b
     let r1 = c .before .before .before .before .before .before .before .before .before .before .before .before .before .before .place-row in
     let r2 = c .before .before .before .before .before .before .before .before .before .place-row2 in
     let r3 = c .before .before .before .before .place-row3 in
-    let s1 = stage-line (a .at) (a .at) (now (a .sheet)) _ _ _ _ (row 7 (a .side) (a .number) (toBits binary32 (a .x))) (stage-none (a .at) (now (a .sheet))) (omega (arith, s .pre)) (c1 .ensures) (r1 .ensures) (c1 .kept .0) in
-    let s2 = stage-line (a .at) (a .at + 45) (now (a .sheet)) _ _ _ _ (row 8 (a .side) (a .number) (toBits binary32 (a .y))) s1 (omega (arith, s .pre)) (c2 .ensures) (r2 .ensures) (c2 .kept .0) in
-    let s3 = stage-line (a .at) (a .at + 45 + 45) (now (a .sheet)) _ _ _ _ (row 9 (a .side) (a .number) (toBits binary32 (a .z))) s2 (omega (arith, s .pre)) (c3 .ensures) (r3 .ensures) (c3 .kept .0) in
-    s3 .text
+    let s1 = row-next (a .at) (a .at) (now (a .sheet)) _ _ _ _ (row 7 (a .side) (a .number) (toBits binary32 (a .x))) (rows-none (a .at) (now (a .sheet))) (omega (arith, s .pre)) (c1 .ensures) (r1 .ensures) (c1 .kept .0) in
+    let s2 = row-next (a .at) (a .at + 45) (now (a .sheet)) _ _ _ _ (row 8 (a .side) (a .number) (toBits binary32 (a .y))) s1 (omega (arith, s .pre)) (c2 .ensures) (r2 .ensures) (c2 .kept .0) in
+    let s3 = row-next (a .at) (a .at + 45 + 45) (now (a .sheet)) _ _ _ _ (row 9 (a .side) (a .number) (toBits binary32 (a .z))) s2 (omega (arith, s .pre)) (c3 .ensures) (r3 .ensures) (c3 .kept .0) in
+    s3 .written
 
 pub three-lines-spec : {M : Type 1} → statement M
 three-lines-spec =
