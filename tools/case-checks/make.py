@@ -87,13 +87,10 @@ LAYOUT = [
 ]
 
 
-# The words of a pose that cases change, by name and place in the pose.
-POSE = [("", 0), ("_X", 1), ("_Y", 2), ("_RADIUS", 4)]
-
-
 def player_names(number):
-    """The words of the pose of a player of Home, by name. The first, present, has the player's name alone."""
-    return [(f"HOME_{number}{part}", 63 + 5 * place(HOME, number) + k) for part, k in POSE]
+    """The first words of the pose of a player of Home, by name: present, which has the player's name alone, x and y."""
+    at = 63 + 5 * place(HOME, number)
+    return [(f"HOME_{number}", at), (f"HOME_{number}_X", at + 1), (f"HOME_{number}_Y", at + 2)]
 
 
 # The words that cases change, by name.
@@ -107,10 +104,12 @@ NAMES = [
     ("HOME_GOALKEEPER", 21),
     ("AWAY_GOALKEEPER", 22),
     *player_names(2),
+    ("HOME_2_RADIUS", 67 + 5 * place(HOME, 2)),
     *player_names(3),
     *player_names(4),
     *player_names(5),
     *player_names(6),
+    ("HOME_6_RADIUS", 67 + 5 * place(HOME, 6)),
     ("AWAY_20_ALLOWANCE", 463 + place(AWAY, 20)),
     ("HOME_2_INSIDE", 503 + place(HOME, 2)),
     ("HOME_3_INSIDE", 503 + place(HOME, 3)),

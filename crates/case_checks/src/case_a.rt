@@ -33,23 +33,17 @@ pub(crate) const HOME_3_X: u32 = 74;
 
 pub(crate) const HOME_3_Y: u32 = 75;
 
-pub(crate) const HOME_3_RADIUS: u32 = 77;
-
 pub(crate) const HOME_4: u32 = 78;
 
 pub(crate) const HOME_4_X: u32 = 79;
 
 pub(crate) const HOME_4_Y: u32 = 80;
 
-pub(crate) const HOME_4_RADIUS: u32 = 82;
-
 pub(crate) const HOME_5: u32 = 83;
 
 pub(crate) const HOME_5_X: u32 = 84;
 
 pub(crate) const HOME_5_Y: u32 = 85;
-
-pub(crate) const HOME_5_RADIUS: u32 = 87;
 
 pub(crate) const HOME_6: u32 = 88;
 

@@ -1,4 +1,4 @@
-// The refusals 1 to 5 and 7, each with a near miss. Expected values are document 01's only: the table of refusals.
+// The refusals 1 to 5, each with a near miss, and several at once; 6 is in leaf_cases.rt, and 7 alone in sheet_cases.rt. Expected values are document 01's only: the table of refusals.
 // The field is A's with nobody on it and the ball at its centre, so that a situation that is accepted has the header's line alone.
 use super::case_a::AWAY_20_ALLOWANCE;
 use super::case_a::AWAY_GOALKEEPER;
@@ -33,7 +33,7 @@ const ABOVE_1: u32 = 0x3f80_0001;
 
 const ABOVE_0: u32 = 0x0000_0001;
 
-// The rows where the call accepts, which the number 0 stands for, and where it refuses.
+// The empty field with these edits: whether the call accepts, which the number 0 stands for, or refuses with this number.
 fn gives(edits: &[u32], lent: Lent, refusal: u8) -> bool {
     if refusal == 0 {
         return agrees(&EMPTY_FIELD, edits, lent, 0, &HEADER);
@@ -41,12 +41,12 @@ fn gives(edits: &[u32], lent: Lent, refusal: u8) -> bool {
     agrees(&EMPTY_FIELD, edits, lent, refusal, &NO_ROWS)
 }
 
-// The empty field with this word changed: whether the call accepts (0), or refuses with this number.
+// The same with one word changed.
 fn with(word: u32, value: u32, refusal: u8) -> bool {
     gives(&[word, value], bytes(200), refusal)
 }
 
-// The same with two words changed.
+// The same with two.
 fn with_two(word: u32, value: u32, other: u32, other_value: u32, refusal: u8) -> bool {
     gives(&[word, value, other, other_value], bytes(200), refusal)
 }

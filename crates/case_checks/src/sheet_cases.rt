@@ -147,7 +147,31 @@ fn touchline(t: Tally) -> Tally {
     )
 }
 
-// The places. In Ready no ball is judged. The patterns are those of 6.96875, 4.46875 and 0.125.
+// The rows of a sheet with a place alone: whose it is, and the patterns of its three numbers.
+fn place_rows(side: u32, number: u32, x: u32, y: u32, third: u32) -> [u32; 16]
+    ensures { λ r. ⌜ 16 ≡ length r ⌝ }
+{
+    [
+        0,
+        2,
+        3,
+        1,
+        7,
+        side,
+        number,
+        x,
+        8,
+        side,
+        number,
+        y,
+        9,
+        side,
+        number,
+        third,
+    ]
+}
+
+// The place of a throw-in. In Ready no ball is judged. The patterns are those of 6.96875, 4.46875 and 0.125.
 fn throw_in_place(t: Tally) -> Tally {
     let e = [
         case_a::STATE,
@@ -161,24 +185,7 @@ fn throw_in_place(t: Tally) -> Tally {
         case_a::WISH,
         1,
     ];
-    let rows = [
-        0,
-        2,
-        3,
-        1,
-        7,
-        2,
-        0,
-        0x40df_0000,
-        8,
-        2,
-        0,
-        0x408f_0000,
-        9,
-        2,
-        0,
-        0x3e00_0000,
-    ];
+    let rows = place_rows(2, 0, 0x40df_0000, 0x408f_0000, 0x3e00_0000);
     tell(t, b"throw-in place", writes(&EMPTY_FIELD, &e, &rows))
 }
 
@@ -198,24 +205,7 @@ fn penalty_place(t: Tally) -> Tally {
         case_a::WISHED_PLAYER,
         2,
     ];
-    let rows = [
-        0,
-        2,
-        3,
-        1,
-        7,
-        0,
-        2,
-        0x40a0_0000,
-        8,
-        0,
-        2,
-        0xc0a8_0000,
-        9,
-        0,
-        2,
-        0x3fc9_0fdb,
-    ];
+    let rows = place_rows(0, 2, 0x40a0_0000, 0xc0a8_0000, 0x3fc9_0fdb);
     tell(t, b"penalty place", writes(&EMPTY_FIELD, &e, &rows))
 }
 

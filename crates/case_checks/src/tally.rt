@@ -1,4 +1,4 @@
-// How many cases agree, of how many.
+// How many cases agree, of how many. The sums wrap, so that no bound on them has to be shown.
 use libc::STDOUT_FILENO;
 use std::num::wrapping_add_u32;
 
