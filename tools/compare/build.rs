@@ -1,0 +1,233 @@
+//! Links libreferee_c.a and makes the oracle's text from the original Rust, which is not part of this repository.
+//!
+//! The original files are read from REFEREE_RUST_DIR, else from ../shared/docs/src beside the repository. They are rewritten only so
+//! far that they compile here: leading module comments go (an included text may not begin with them), paths of `use` point to
+//! the stand-ins, serde's attributes and the derives of absent crates go, and hypot, min and max of f32 become methods of a trait
+//! `Leaves`, which each build supplies. Every rule says how often it must match; if it does not, the build fails.
+//!
+//! A third text has deliberate slips in it, each behind a switch (src/slips.rs). It serves only to show that the comparison fails.
+
+use std::env;
+use std::fs;
+use std::path::{Path, PathBuf};
+
+fn main() {
+    println!("cargo:rerun-if-env-changed=REFEREE_LIB_DIR");
+    println!("cargo:rerun-if-env-changed=REFEREE_RUST_DIR");
+    println!("cargo:rerun-if-changed=build.rs");
+    let project = PathBuf::from(env::var_os("CARGO_MANIFEST_DIR").expect("cargo sets CARGO_MANIFEST_DIR"));
+    let out = PathBuf::from(env::var_os("OUT_DIR").expect("cargo sets OUT_DIR"));
+    link(&folder(&project, "REFEREE_LIB_DIR", "../../target/staticlib"));
+    oracle(&folder(&project, "REFEREE_RUST_DIR", "../../../shared/docs/src"), &out);
+}
+
+/// The folder that a variable names, else the one beside this project.
+fn folder(project: &Path, variable: &str, default: &str) -> PathBuf {
+    match env::var_os(variable) {
+        // A build script runs in the project's folder and not where cargo was called: a relative path would mislead.
+        Some(given) if !Path::new(&given).is_absolute() => panic!("{variable} must be an absolute path"),
+        Some(given) => PathBuf::from(given),
+        None => project.join(default),
+    }
+}
+
+fn link(folder: &Path) {
+    let archive = folder.join("libreferee_c.a");
+    println!("cargo:rerun-if-changed={}", archive.display());
+    if !archive.is_file() {
+        panic!(
+            "{} is missing: run `rt staticlib referee_c` in the repository's root, or set REFEREE_LIB_DIR",
+            archive.display()
+        );
+    }
+    println!("cargo:rustc-link-search=native={}", folder.display());
+    println!("cargo:rustc-link-lib=static=referee_c");
+    println!("cargo:rustc-link-lib=m");
+}
+
+fn oracle(folder: &Path, out: &Path) {
+    let read = |name: &str| {
+        let path = folder.join(name);
+        println!("cargo:rerun-if-changed={}", path.display());
+        let text = fs::read_to_string(&path)
+            .unwrap_or_else(|e| panic!("{}: {e}; REFEREE_RUST_DIR names the folder of the original Rust", path.display()));
+        Text { name: name.to_string(), text }
+    };
+    let write = |name: &str, text: &str| fs::write(out.join(name), text).expect("OUT_DIR can be written");
+
+    let mut types = read("game_controller_core/src/types.rs");
+    types.without_module_comment();
+    types.replace("use enum_map::{Enum, EnumMap};", "use crate::stand_ins::enum_map::EnumMap;", 1);
+    types.replace("use serde::{Deserialize, Serialize};\n", "", 1);
+    types.replace("use crate::timer::Timer;", "use crate::stand_ins::game_controller_core::timer::Timer;", 1);
+    types.without_absent_derives();
+    write("types.rs", &types.text);
+
+    let mut rules = read("game_controller_autoreferee/src/rules.rs");
+    rules.without_module_comment();
+    rules.replace("use enum_map::EnumMap;", "use crate::stand_ins::enum_map::EnumMap;", 1);
+    rules.replace("use game_controller_core::types::{", "use crate::stand_ins::game_controller_core::types::{", 1);
+    rules.replace("use crate::{index,", "use super::leaves::Leaves;\nuse super::{index,", 1);
+    rules.replace(".hypot(", ".leaf_hypot(", 6);
+    rules.replace(".min(", ".leaf_min(", 5);
+    rules.replace(".max(", ".leaf_max(", 1);
+    rules.absent("f32::min");
+    rules.absent("f32::max");
+    write("rules.rs", &rules.text);
+
+    let mut lib = read("game_controller_autoreferee/src/lib.rs");
+    lib.without_module_comment();
+    lib.replace("use bitflags::bitflags;", "use crate::stand_ins::bitflags::bitflags;", 1);
+    lib.replace("use enum_map::EnumMap;", "use crate::stand_ins::enum_map::EnumMap;\nuse self::leaves::Leaves;", 1);
+    lib.replace("use game_controller_core::{", "use crate::stand_ins::game_controller_core::{", 1);
+    lib.replace(".hypot(", ".leaf_hypot(", 11);
+    lib.replace("f32::min)", "<f32 as Leaves>::leaf_min)", 1);
+    lib.absent("f32::min");
+    lib.absent("f32::max");
+    lib.absent(".min(");
+    // The third `.max(` is of durations.
+    lib.replace(".max(0.0)", ".leaf_max(0.0)", 2);
+    lib.counted(".max(", 1);
+    lib.counted(".max(since)", 1);
+    let with_rules = |lib: &Text, file: &str| {
+        let mut lib = lib.clone();
+        let module = format!("mod rules {{ include!(concat!(env!(\"OUT_DIR\"), \"/{file}\")); }}");
+        lib.replace("\nmod rules;\n", &format!("\n{module}\n"), 1);
+        lib.text
+    };
+    write("lib.rs", &with_rules(&lib, "rules.rs"));
+
+    slips(&mut lib, &mut rules);
+    write("rules_slips.rs", &rules.text);
+    write("lib_slips.rs", &with_rules(&lib, "rules_slips.rs"));
+}
+
+/// Puts the slips of src/slips.rs into the text, each behind its switch.
+fn slips(lib: &mut Text, rules: &mut Text) {
+    // Squares in f32 instead of the rounded distance, at the three distances that decide a verdict with one comparison.
+    rules.replace(
+        "(pose.x - ball_x).leaf_hypot(pose.y - ball_y) < field.center_circle_radius + pose.radius",
+        "crate::slips::nearer(pose.x - ball_x, pose.y - ball_y, field.center_circle_radius + pose.radius)",
+        1,
+    );
+    rules.replace(
+        "distance_to_center < field.center_circle_radius + r;",
+        "crate::slips::nearer(pose.x, pose.y, field.center_circle_radius + r);",
+        1,
+    );
+    rules.replace("margin1.total_cmp(margin2)", "crate::slips::by_margin(*margin1, *margin2)", 1);
+    rules.replace("u8::from(*player2).cmp(&u8::from(*player1))", "crate::slips::by_number(u8::from(*player1), u8::from(*player2))", 1);
+    rules.replace("m.own_goal_area >= 0.0", "crate::slips::in_area(m.own_goal_area)", 1);
+    rules.replace("saturating_sub(MAX_PLAYERS_IN_GOAL_AREA)", "saturating_sub(crate::slips::most_players(MAX_PLAYERS_IN_GOAL_AREA))", 1);
+    rules.replace("m.opponent_penalty_area > 0.0", "crate::slips::in_penalty_area(m.opponent_penalty_area)", 2);
+    rules.replace("team_x > -(field.line_width * 0.5 + r)", "crate::slips::in_half(team_x, -(field.line_width * 0.5 + r))", 1);
+    rules.replace("carpet_excess(&pose, field) > allowance", "crate::slips::leaves(carpet_excess(&pose, field), allowance)", 1);
+    rules.replace("pose.y.abs() <= field.goal_width * 0.5", "crate::slips::between_posts(pose.y.abs(), field.goal_width * 0.5)", 1);
+    rules.replace("towards_halfway_line <= max", "crate::slips::up_to(towards_halfway_line, max)", 1);
+    rules.replace(
+        "distance1.total_cmp(distance2)",
+        "crate::slips::by_distance(*distance1, *distance2)",
+        1,
+    );
+    lib.replace(
+        ".chain(commands.iter()",
+        ".chain(commands.iter().filter(|_| !crate::slips::on(crate::slips::FORGET_PLACES))",
+        1,
+    );
+    lib.replace("clearance(*a).total_cmp(&clearance(*b))", "crate::slips::by_clearance(clearance(*a), clearance(*b))", 1);
+    lib.replace("clearance(team_x) >= distance", "crate::slips::reaches(clearance(team_x), distance)", 1);
+    lib.replace(
+        "x.abs() > field.length * 0.5 + field.ball_radius",
+        "crate::slips::past(x.abs(), field.length * 0.5 + field.ball_radius)",
+        1,
+    );
+    lib.replace(
+        "y.abs() + field.ball_radius < field.goal_width * 0.5",
+        "crate::slips::in_goal(y.abs() + field.ball_radius, field.goal_width * 0.5)",
+        1,
+    );
+    lib.replace("(game.sides, x > 0.0)", "(game.sides, crate::slips::positive(x))", 1);
+    lib.replace("> Self::MOTION_ANGLE", "> crate::slips::angle(Self::MOTION_ANGLE)", 1);
+    lib.replace(
+        "rules::normalize_angle(pose.theta - reference_pose.theta)",
+        "crate::slips::normalized(rules::normalize_angle, pose.theta - reference_pose.theta)",
+        1,
+    );
+    lib.replace(".copysign(pose.y)", ".copysign(crate::slips::zero_sign(pose.y))", 1);
+}
+
+#[derive(Clone)]
+struct Text {
+    name: String,
+    text: String,
+}
+
+impl Text {
+    fn counted(&self, what: &str, expected: usize) {
+        let found = self.text.matches(what).count();
+        if found != expected {
+            panic!(
+                "{}: `{}` stands there {found} times and not {expected}: not the text that this tool was written for",
+                self.name, what
+            );
+        }
+    }
+
+    fn absent(&self, what: &str) {
+        self.counted(what, 0);
+    }
+
+    fn replace(&mut self, what: &str, by: &str, expected: usize) {
+        self.counted(what, expected);
+        self.text = self.text.replace(what, by);
+    }
+
+    fn without_module_comment(&mut self) {
+        if !self.text.starts_with("//! ") {
+            panic!("{}: no module comment at its head: not the text that this tool was written for", self.name);
+        }
+        self.text = self.text.lines().skip_while(|line| line.starts_with("//!")).flat_map(|line| [line, "\n"]).collect();
+        self.absent("//!");
+        self.absent("#![");
+    }
+
+    /// Takes serde's attributes and the derives Deserialize, Serialize and Enum out, and implements Enum by the stand-in's macro.
+    fn without_absent_derives(&mut self) {
+        let mut result = String::new();
+        let mut impls = String::new();
+        let (mut derives_enum, mut collecting) = (false, false);
+        for line in self.text.lines() {
+            let trimmed = line.trim();
+            if trimmed.starts_with("#[serde(") && trimmed.ends_with(")]") {
+                continue;
+            }
+            if let Some(list) = trimmed.strip_prefix("#[derive(").and_then(|rest| rest.strip_suffix(")]")) {
+                derives_enum = list.split(", ").any(|name| name == "Enum");
+                let kept: Vec<&str> =
+                    list.split(", ").filter(|name| !matches!(*name, "Enum" | "Deserialize" | "Serialize")).collect();
+                result += &format!("#[derive({})]\n", kept.join(", "));
+                continue;
+            }
+            if let Some(name) = trimmed.strip_prefix("pub enum ").and_then(|rest| rest.strip_suffix(" {")) {
+                if derives_enum {
+                    impls += &format!("crate::stand_ins::enum_map::implement_enum!({name}:");
+                    (derives_enum, collecting) = (false, true);
+                }
+            } else if collecting && trimmed == "}" {
+                impls += ");\n";
+                collecting = false;
+            } else if collecting && !trimmed.starts_with("///") {
+                let variant = trimmed.strip_suffix(',').filter(|v| v.chars().all(|c| c.is_ascii_alphabetic()));
+                impls += &format!(" {}", variant.unwrap_or_else(|| panic!("{}: no plain variant: {trimmed}", self.name)));
+            }
+            result += line;
+            result += "\n";
+        }
+        if impls.lines().count() != 4 {
+            panic!("{}: not four enums that derive Enum: not the text that this tool was written for", self.name);
+        }
+        self.text = result + &impls;
+        self.absent("serde");
+        self.absent("Serialize");
+    }
+}

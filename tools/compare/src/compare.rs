@@ -1,0 +1,498 @@
+//! The comparison of `referee_sheet` with the two builds of the original.
+
+use crate::decision::Decision;
+use crate::generate::{self, Class, CLASSES};
+use crate::random::Random;
+use crate::situation::{values, Situation, WORDS};
+use crate::{cases, entries, exact_build, library, mixed_build, refusals, slip_build, slips, std_build, turn};
+use std::collections::{BTreeMap, BTreeSet};
+
+/// What the oracle answers: a refusal, or a decision.
+enum Answer {
+    Refused(i64),
+    Decided(Decision),
+}
+
+fn exact(s: &Situation) -> Answer {
+    match refusals::refusal(s) {
+        Some(n) => Answer::Refused(n),
+        None => Answer::Decided(decide(s)),
+    }
+}
+
+/// By the exact build, or by the one with slips while one is switched on.
+fn decide(s: &Situation) -> Decision {
+    if slips::any() {
+        slip_build::oracle::decide(s)
+    } else {
+        exact_build::oracle::decide(s)
+    }
+}
+
+/// The answer as the number that the entry gives and the text that it writes.
+fn entry(answer: &Answer) -> (i64, String) {
+    match answer {
+        Answer::Refused(n) => (-n, String::new()),
+        Answer::Decided(decision) => {
+            let text = decision.sheet();
+            (text.len() as i64, text)
+        }
+    }
+}
+
+/// Bytes that no sheet holds, different from place to place.
+fn filler(i: usize) -> u8 {
+    0x80 | (i as u8).wrapping_mul(37)
+}
+
+/// Calls the entry with `room` bytes between two guards. Says whether it gives `number` and writes exactly `text`, and keeps the rest.
+fn call(words: &[u32], s: &Situation, room: usize, number: i64, text: &str) -> bool {
+    const GUARD: usize = 16;
+    let mut lent: Vec<u8> = (0..room + 2 * GUARD).map(filler).collect();
+    let part = &mut lent[GUARD..GUARD + room];
+    let answer = library::sheet(words, &s.xs, &s.ys, part);
+    if let (true, Ok(length)) = (slips::on(slips::WRITE_AFTER), usize::try_from(answer)) {
+        part[length..].iter_mut().take(1).for_each(|byte| *byte = b' ');
+    }
+    if slips::on(slips::WRITE_ON_REFUSAL) && answer < 0 {
+        part.iter_mut().take(1).for_each(|byte| *byte = b' ');
+    }
+    answer == number
+        && lent.iter().enumerate().all(|(i, &byte)| {
+            let written = i >= GUARD && i - GUARD < text.len();
+            byte == if written { text.as_bytes()[i - GUARD] } else { filler(i) }
+        })
+}
+
+/// The port's own answer, for a report.
+fn port(s: &Situation) -> (i64, String) {
+    let mut lent = vec![0; 8192];
+    let answer = library::sheet(&s.to_words(None), &s.xs, &s.ys, &mut lent);
+    let length = usize::try_from(answer).unwrap_or(0).min(lent.len());
+    (answer, String::from_utf8_lossy(&lent[..length]).into_owned())
+}
+
+#[derive(Default)]
+pub struct Tally {
+    counts: BTreeMap<String, u64>,
+    pub differences: u64,
+    pub counterexamples: u64,
+    std_shown: BTreeMap<String, Situation>,
+    combinations: BTreeSet<[u8; 6]>,
+    goals: BTreeSet<[u8; 9]>,
+}
+
+impl Tally {
+    fn add(&mut self, what: impl Into<String>) {
+        *self.counts.entry(what.into()).or_default() += 1;
+    }
+
+    pub fn print(&self) {
+        for (what, count) in &self.counts {
+            println!("{count:>12}  {what}");
+        }
+        println!(
+            "{:>12}  combinations of state, phase, set play, kicking side, wish and stopped, of {}",
+            self.combinations.len(),
+            6 * 5 * 8 * 3 * 6 * 2
+        );
+        println!("{:>12}  combinations of restart, invalid goals, ends and ball judgment", self.goals.len());
+    }
+
+    fn fail(&mut self, kind: &str, s: &Situation, answer: &Answer) {
+        self.differences += 1;
+        self.add(format!("DIFFERENCE in {kind}"));
+        if self.differences <= 3 && !slips::any() {
+            println!("DIFFERENCE in {kind}");
+            let shrunk = shrink(s, |t| entry(&exact(t)) != port(t));
+            if entry(&exact(&shrunk)) != port(&shrunk) {
+                report(&shrunk, &entry(&exact(&shrunk)), "the exact build");
+            } else {
+                report(s, &entry(answer), "the exact build");
+            }
+        }
+    }
+}
+
+/// What differs from case A without players and with the ball at the centre, word by word.
+fn as_changes(s: &Situation) -> String {
+    let mut text = String::new();
+    for (i, (word, plain)) in s.to_words(None).into_iter().zip(plain().to_words(None)).enumerate() {
+        if word != plain {
+            text += &format!("  word {i}: {word}");
+            text += &if values(i) == 1 << 32 { format!(" (0x{word:08x}, {:?})\n", f32::from_bits(word)) } else { "\n".to_string() };
+        }
+    }
+    for (name, list) in [("x", &s.xs), ("y", &s.ys)] {
+        for x in list {
+            text += &format!("  an earlier {name}: {} (0x{:08x}, {x:?})\n", x.to_bits(), x.to_bits());
+        }
+    }
+    text
+}
+
+fn plain() -> Situation {
+    let mut s = Situation::case_a();
+    s.players = [[crate::situation::NOBODY; 20]; 2];
+    s.ball = [0.0, 0.0, 0.125];
+    s
+}
+
+fn report(s: &Situation, (number, text): &(i64, String), name: &str) {
+    print!("case A without players and with the ball at the centre, but for\n{}", as_changes(s));
+    println!("words and earlier places, as judge reads them:\n{}", as_numbers(s));
+    println!("{name} answers {number}:\n{text}");
+    let (number, text) = port(s);
+    println!("the port answers {number}:\n{text}");
+}
+
+/// The words, then the number of xs and their patterns, then of ys and theirs.
+pub fn as_numbers(s: &Situation) -> String {
+    let words = s.to_words(None).map(|w| w.to_string()).join(" ");
+    let list = |l: &[f32]| l.iter().map(|x| format!(" {}", x.to_bits())).collect::<String>();
+    format!("{words} {}{} {}{}", s.xs.len(), list(&s.xs), s.ys.len(), list(&s.ys))
+}
+
+/// Makes words 0 or of case A, one after the other, and drops earlier places, as long as the property stays.
+pub fn shrink(s: &Situation, holds: impl Fn(&Situation) -> bool) -> Situation {
+    if !holds(s) {
+        return s.clone();
+    }
+    let mut best = s.clone();
+    loop {
+        let before = as_numbers(&best);
+        let mut step = best.xs.len().max(best.ys.len());
+        while step > 0 {
+            let mut at = 0;
+            while at < best.xs.len() && best.xs.len() == best.ys.len() {
+                let mut t = best.clone();
+                let end = (at + step).min(t.xs.len());
+                t.xs.drain(at..end);
+                t.ys.drain(at..end);
+                if holds(&t) {
+                    best = t;
+                } else {
+                    at += step;
+                }
+            }
+            step /= 2;
+        }
+        let plain = plain().to_words(None);
+        for i in 0..WORDS {
+            let words = best.to_words(None);
+            let mut tries = vec![plain[i]];
+            if values(i) == 1 << 32 {
+                // Fewer bits of a float.
+                tries.extend([16, 12, 8, 4].map(|cut| words[i] >> cut << cut));
+            } else {
+                tries.push(0);
+            }
+            for value in tries {
+                let mut words = words;
+                if words[i] == value {
+                    break;
+                }
+                words[i] = value;
+                if let Some(t) = Situation::from_words(&words, best.xs.clone(), best.ys.clone()) {
+                    if holds(&t) {
+                        best = t;
+                        break;
+                    }
+                }
+            }
+        }
+        if as_numbers(&best) == before {
+            return best;
+        }
+    }
+}
+
+/// Compares one situation in every way.
+pub fn check(random: &mut Random, s: &Situation, class: &str, tally: &mut Tally) {
+    tally.add(format!("situations, {class}"));
+    let noise = random.coin();
+    let words = s.to_words(noise.then_some(&mut *random));
+    let answer = exact(s);
+    let (number, text) = entry(&answer);
+    let spare = random.within(1, 200) as usize;
+    if !call(&words, s, text.len() + spare, number, &text) {
+        tally.fail("a sheet with room to spare", s, &answer);
+        return;
+    }
+    let calls = random.within(0, 3) == 0;
+    if calls {
+        let mut ways = vec![("a sheet without room", 0, if number < 0 { number } else { -7 })];
+        if number > 0 {
+            ways.push(("a sheet with one byte too few", text.len() - 1, -7));
+            ways.push(("a sheet with too little room", random.within(0, text.len() as i64 - 1) as usize, -7));
+        }
+        for (kind, room, number) in ways {
+            tally.add(format!("calls: {kind}"));
+            if !call(&words, s, room, number, "") {
+                tally.fail(kind, s, &answer);
+            }
+        }
+        tally.add("calls: a sheet with exact room");
+        if !call(&words, s, text.len(), number, &text) {
+            tally.fail("a sheet with exact room", s, &answer);
+        }
+        // A word outside its column; a slice of another length.
+        let mut bad = words;
+        let columns: Vec<usize> = (0..WORDS).filter(|&i| values(i) < 1 << 32).collect();
+        let i = random.pick(&columns);
+        bad[i] = random.pick(&[values(i) as u32, values(i) as u32 + 1, u32::MAX, 1 << 31, values(i) as u32 | 1 << 16]);
+        tally.add("calls: a word outside its column");
+        if !call(&bad, s, 8192, -100, "") {
+            tally.fail(&format!("a bad word {i}, {}", bad[i]), s, &answer);
+        }
+        let mut long = words.to_vec();
+        long.resize(WORDS + 1 + random.within(0, 9) as usize, 0);
+        let short = random.within(0, WORDS as i64 - 1) as usize;
+        tally.add("calls: too many or too few words");
+        if !call(&long, s, 8192, -100, "") || !call(&words[..short], s, 8192, -100, "") {
+            tally.fail("a wrong number of words", s, &answer);
+        }
+    }
+    let decision = match answer {
+        Answer::Refused(n) => {
+            tally.add(format!("refused {n}{}", if refusals::applying(s) > 1 { ", and another applies" } else { "" }));
+            return;
+        }
+        Answer::Decided(decision) => decision,
+    };
+    describe(&decision, tally);
+    let wish = words[560] as u8;
+    let kicking = s.kicking_side.unwrap_or(2);
+    tally.combinations.insert([s.state, s.phase, s.set_play, kicking, wish, s.stopped.into()]);
+    if let (Some(r), Some((code, side))) = (s.restart, decision.ball) {
+        let [other, outside, far, _] = r.flags.map(u8::from);
+        tally.goals.insert([r.kind, r.side, other, outside, far, s.invalid_goals.into(), code, side, s.sides]);
+    }
+
+    let by_std = std_build::oracle::decide(s);
+    let items = decision.differing(&by_std);
+    if !items.is_empty() {
+        let by_hypot = decision.differing(&mixed_build::oracle::decide(s)).is_empty();
+        let leaf = if by_hypot { "by hypot alone" } else { "NOT by hypot alone" };
+        tally.add(format!("std differs in {}, {leaf}, {class}", items.join(" and ")));
+        tally.std_shown.entry(items.join(" and ")).or_insert_with(|| s.clone());
+    }
+
+    let turned = decide(&turn::turned(s));
+    let equal = turn::same(s.wish, &decision, &turned);
+    let excepted = turn::excepted(s);
+    tally.add(format!("turned: {}, {}", if excepted { "excepted" } else { "not excepted" }, if equal { "equal" } else { "unequal" }));
+    if equal == excepted {
+        tally.counterexamples += 1;
+        if tally.counterexamples <= 2 && !slips::any() {
+            println!("COUNTEREXAMPLE to the half turn:\n{}", as_numbers(s));
+        }
+    }
+}
+
+/// Counts what the decisions hold, so that a class that shows nothing is seen.
+fn describe(d: &Decision, tally: &mut Tally) {
+    for verdict in 1..=3 {
+        if d.verdicts.iter().flatten().any(|&v| v == verdict) {
+            tally.add(format!("decisions with a verdict {verdict}"));
+        }
+    }
+    for (what, there) in [
+        ("an excess", d.excess.iter().any(|l| !l.is_empty())),
+        ("a kicker", d.kicker.is_some()),
+        ("a player leaving", !d.leaving.is_empty()),
+        ("a moved player", !d.moved.is_empty()),
+    ] {
+        if there {
+            tally.add(format!("decisions with {what}"));
+        }
+    }
+    if let Some((code, _)) = d.ball {
+        tally.add(format!("decisions with a ball judgment {code}"));
+    }
+    match d.place {
+        Some(crate::decision::Place::Ball(_)) => tally.add("decisions with a place of the ball"),
+        Some(_) => tally.add("decisions with a place of a player"),
+        None => (),
+    }
+}
+
+/// Two neighbouring values of one float between which the answer changes, and their neighbours.
+pub fn bisect(random: &mut Random, tally: &mut Tally) {
+    let class = random.pick(&[Class::Realistic, Class::Grid, Class::Boundary, Class::Sizes, Class::Places]);
+    let mut s = generate::situation(random, class);
+    if s.xs.len() > 20 {
+        s.xs.truncate(20);
+        s.ys.truncate(20);
+    }
+    if s.distance > 0.0 && s.distance < 0.2 {
+        s.distance = 0.25;
+    }
+    // Without the values of places, which change with every float that they depend on.
+    let coarse = random.coin();
+    let key = |s: &Situation| match exact(s) {
+        Answer::Refused(n) => n.to_string(),
+        Answer::Decided(mut d) => {
+            if coarse {
+                d.place = None;
+            }
+            d.sheet()
+        }
+    };
+    let words = s.to_words(None);
+    let coordinates: Vec<usize> = (0..WORDS)
+        .filter(|&i| match i {
+            0..=14 | 543..=545 => true,
+            63..=462 => (i - 63) % 5 != 0 && words[63 + (i - 63) / 5 * 5] == 1,
+            463..=502 => words[63 + (i - 463) * 5] == 1,
+            _ => false,
+        })
+        .chain(WORDS..WORDS + s.xs.len() + s.ys.len())
+        .collect();
+    let i = random.pick(&coordinates);
+    let with = |bits: u32| {
+        let (mut words, mut xs, mut ys) = (words, s.xs.clone(), s.ys.clone());
+        if i < WORDS {
+            words[i] = bits;
+        } else if i - WORDS < xs.len() {
+            xs[i - WORDS] = f32::from_bits(bits);
+        } else {
+            ys[i - WORDS - s.xs.len()] = f32::from_bits(bits);
+        }
+        Situation::from_words(&words, xs, ys).expect("a float's column has every value")
+    };
+    // Patterns in the order of values.
+    let order = |bits: u32| if bits >> 31 == 1 { -i64::from(bits & 0x7fff_ffff) - 1 } else { i64::from(bits) };
+    let back = |key: i64| if key < 0 { 0x8000_0000 | (-key - 1) as u32 } else { key as u32 };
+    let a = if i < WORDS { words[i] } else { s.xs.iter().chain(&s.ys).nth(i - WORDS).expect("an earlier place").to_bits() };
+    let here = f32::from_bits(a);
+    let b = match random.within(0, 3) {
+        0 => here + random.within(-1000, 1000) as f32 / 4096.0,
+        1 => -here,
+        2 => random.within(0, 64 * 64) as f32 / 64.0,
+        _ => here + random.within(-1000, 1000) as f32 / 256.0,
+    }
+    .to_bits();
+    // A small distance takes the original long.
+    if i == 14 && f32::from_bits(b) > 0.0 && f32::from_bits(b) < 0.1 {
+        return;
+    }
+    let (low, high) = (key(&with(a)), key(&with(b)));
+    if low == high {
+        tally.add("bisections without a change");
+        return;
+    }
+    let (mut low_at, mut high_at) = (order(a), order(b));
+    while (low_at - high_at).abs() > 1 {
+        let middle = low_at + (high_at - low_at) / 2;
+        if key(&with(back(middle))) == low {
+            low_at = middle;
+        } else {
+            high_at = middle;
+        }
+    }
+    for at in low_at.min(high_at) - 2..=low_at.max(high_at) + 2 {
+        check(random, &with(back(at)), "bisected", tally);
+    }
+}
+
+/// The main run.
+pub fn run(count: u64, seed: u64) -> bool {
+    let mut random = Random::new(seed);
+    let mut tally = Tally::default();
+    for case in cases::cases() {
+        if !case.holds(&decide(&case.situation)) {
+            println!("the oracle does not give document 01's answer: {}", case.name);
+            tally.differences += 1;
+        }
+        check(&mut random, &case.situation, "document 01", &mut tally);
+    }
+    for turn in 0..count {
+        let class = CLASSES[(turn % CLASSES.len() as u64) as usize];
+        let s = generate::situation(&mut random, class);
+        check(&mut random, &s, &format!("{class:?}"), &mut tally);
+        if turn % 16 == 0 {
+            bisect(&mut random, &mut tally);
+        }
+    }
+    tally.print();
+    for (items, s) in &tally.std_shown {
+        let s = shrink(s, |t| {
+            refusals::refusal(t).is_none()
+                && exact_build::oracle::decide(t).differing(&std_build::oracle::decide(t)).join(" and ") == *items
+        });
+        println!("std differs in {items}; a small input is case A without players and with the ball at the centre, but for");
+        print!("{}", as_changes(&s));
+        println!("exact:\n{}std:\n{}", exact_build::oracle::decide(&s).sheet(), std_build::oracle::decide(&s).sheet());
+    }
+    println!("differences from the exact build: {}", tally.differences);
+    println!("counterexamples to the half turn: {}", tally.counterexamples);
+    tally.differences == 0 && tally.counterexamples == 0
+}
+
+/// Switches each slip on and looks for a situation at which the comparison then fails.
+pub fn try_slips(most: u64, seed: u64) -> bool {
+    let mut all = true;
+    for (slip, what) in slips::SLIPS.iter().enumerate() {
+        slips::switch(Some(slip));
+        let mut random = Random::new(seed);
+        let mut tally = Tally::default();
+        let mut caught = None;
+        for turn in 0..most {
+            let class = CLASSES[(turn % CLASSES.len() as u64) as usize];
+            let s = generate::situation(&mut random, class);
+            check(&mut random, &s, "", &mut tally);
+            if tally.differences + tally.counterexamples > 0 {
+                caught = Some((turn + 1, class));
+                break;
+            }
+        }
+        slips::switch(None);
+        match caught {
+            Some((turn, class)) => {
+                let how = if tally.differences > 0 { "the sheet" } else { "the half turn" };
+                println!("caught at situation {turn:>6} ({class:?}) by {how}: {what}");
+            }
+            None => {
+                println!("NOT CAUGHT: {what}");
+                all = false;
+            }
+        }
+    }
+    all
+}
+
+/// Compares until the first difference; says whether there was none. For edits of the oracle's text (mutants.py).
+pub fn until(count: u64, seed: u64) -> bool {
+    let mut random = Random::new(seed);
+    let mut same = |turn: u64| {
+        let class = CLASSES[(turn % CLASSES.len() as u64) as usize];
+        let s = generate::situation(&mut random, class);
+        let (number, text) = entry(&exact(&s));
+        call(&s.to_words(None), &s, text.len() + 45, number, &text)
+    };
+    (0..count).all(|turn| same(turn)) && entries::candidates_until(count / 10, seed)
+}
+
+/// Reads a situation from standard input, as the program judge does, and prints the sheets of both builds and of the port.
+pub fn judge() -> bool {
+    let mut text = String::new();
+    std::io::Read::read_to_string(&mut std::io::stdin(), &mut text).expect("standard input is text");
+    let numbers: Vec<u32> = text.split_whitespace().map(|n| n.parse().expect("a number")).collect();
+    let list = |at: usize| {
+        let length = *numbers.get(at).expect("the length of a list") as usize;
+        let list: Vec<f32> = numbers[at + 1..at + 1 + length].iter().map(|&bits| f32::from_bits(bits)).collect();
+        (at + 1 + length, list)
+    };
+    let (next, xs) = list(WORDS);
+    let (_, ys) = list(next);
+    let s = Situation::from_words(&numbers[..WORDS], xs, ys).expect("words of a situation");
+    let (number, text) = entry(&exact(&s));
+    println!("the exact build answers {number}:\n{text}");
+    if refusals::refusal(&s).is_none() {
+        println!("the std build:\n{}", std_build::oracle::decide(&s).sheet());
+    }
+    let (port_number, port_text) = port(&s);
+    println!("the port answers {port_number}:\n{port_text}");
+    (number, text) == (port_number, port_text)
+}

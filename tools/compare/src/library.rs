@@ -1,0 +1,46 @@
+//! The C entries of libreferee_c.a. Nothing checks these declarations against include/referee.h.
+
+unsafe extern "C" {
+    fn referee_sheet(
+        words: *const u32,
+        words_len: usize,
+        xs: *const f32,
+        xs_len: usize,
+        ys: *const f32,
+        ys_len: usize,
+        sheet: *mut u8,
+        sheet_len: usize,
+    ) -> i64;
+    fn referee_candidates(start: f32, min: f32, max: f32, step: f32, list: *mut f32, list_len: usize) -> i64;
+    fn referee_hypot(x: f32, y: f32) -> f32;
+    fn referee_normalize_angle(angle: f32) -> f32;
+    fn referee_rem_euclid(x: f32, y: f32) -> f32;
+}
+
+pub fn sheet(words: &[u32], xs: &[f32], ys: &[f32], sheet: &mut [u8]) -> i64 {
+    // SAFETY: each pointer comes with the length of its slice and is aligned, of an empty slice too; the borrows keep what is
+    // written apart from what is read.
+    unsafe {
+        referee_sheet(words.as_ptr(), words.len(), xs.as_ptr(), xs.len(), ys.as_ptr(), ys.len(), sheet.as_mut_ptr(), sheet.len())
+    }
+}
+
+pub fn candidates(start: f32, min: f32, max: f32, step: f32, list: &mut [f32]) -> i64 {
+    // SAFETY: as above.
+    unsafe { referee_candidates(start, min, max, step, list.as_mut_ptr(), list.len()) }
+}
+
+pub fn hypot(x: f32, y: f32) -> f32 {
+    // SAFETY: plain numbers in and out, for every bit pattern.
+    unsafe { referee_hypot(x, y) }
+}
+
+pub fn normalize_angle(angle: f32) -> f32 {
+    // SAFETY: as above.
+    unsafe { referee_normalize_angle(angle) }
+}
+
+pub fn rem_euclid(x: f32, y: f32) -> f32 {
+    // SAFETY: as above.
+    unsafe { referee_rem_euclid(x, y) }
+}

@@ -1,0 +1,78 @@
+//! Compares the port with the original Rust. See README.md.
+
+mod cases;
+mod compare;
+mod decision;
+mod entries;
+mod generate;
+mod leaves;
+mod library;
+mod refusals;
+mod situation;
+mod slips;
+mod stand_ins;
+mod turn;
+
+mod exact_build;
+#[cfg(not(mutants))]
+mod mixed_build;
+#[cfg(not(mutants))]
+mod slip_build;
+#[cfg(not(mutants))]
+mod std_build;
+// mutants.py asks the exact build alone: it compiles faster without the others.
+#[cfg(mutants)]
+use {exact_build as mixed_build, exact_build as slip_build, exact_build as std_build};
+
+#[allow(dead_code)]
+#[path = "../../compare-leaves/src/big.rs"]
+mod big;
+#[allow(dead_code)]
+#[path = "../../compare-leaves/src/exact.rs"]
+mod exact;
+#[allow(dead_code)]
+#[path = "../../compare-leaves/src/random.rs"]
+mod random;
+
+use std::process::exit;
+
+const USAGE: &str = "\
+compare [COUNT] [SEED]             compares COUNT situations (100000) of the seed (1)
+compare candidates [COUNT] [SEED]  compares referee_candidates
+compare leaves [COUNT] [SEED]      compares the leaves
+compare motion                     tries every distance at which motion could turn on std's hypot
+compare judge                      reads one situation as the program judge does and prints the three sheets
+compare until COUNT SEED           compares until the first difference
+compare slips [COUNT] [SEED]       looks for a situation that shows each slip, COUNT at most
+";
+
+fn main() {
+    let mut arguments: Vec<String> = std::env::args().skip(1).collect();
+    let command = match arguments.first() {
+        Some(first) if first.parse::<u64>().is_err() => arguments.remove(0),
+        _ => String::new(),
+    };
+    let number = |i: usize, default| match arguments.get(i) {
+        None => default,
+        Some(text) => text.parse().unwrap_or_else(|_| usage()),
+    };
+    let passed = match command.as_str() {
+        "" => compare::run(number(0, 100_000), number(1, 1)),
+        "candidates" => entries::compare_candidates(number(0, 100_000), number(1, 1)),
+        "leaves" => entries::compare_leaves(number(0, 1_000_000), number(1, 1)),
+        "motion" => entries::compare_motion(),
+        "judge" => compare::judge(),
+        "until" => compare::until(number(0, 100_000), number(1, 1)),
+        "slips" => compare::try_slips(number(0, 100_000), number(1, 1)),
+        _ => usage(),
+    };
+    if !passed {
+        println!("FAILED");
+        exit(1);
+    }
+}
+
+fn usage() -> ! {
+    eprint!("{USAGE}");
+    exit(2)
+}
