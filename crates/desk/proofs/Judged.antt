@@ -87,6 +87,10 @@ pub judged-as : (text : List ℕ) (lent : ℕ) (i : Input) → inputOf text ≡ 
 unfolding judgedText
 judged-as text lent i e = ap (λ (z : Input). inputText z (numbersOf text) lent) (sym e)
 
+-- a text that is no situation: what is told of its input is told of the text
+pub fault-told : (text out next : List ℕ) (n : ℕ) (r i : Input) → r ≡ inputOf text → r ≡ i → Told n next (inputText i (numbersOf text) (length out)) out → Told n next (judgedText text (length out)) out
+fault-told text out next n r i e f t = told-as (inputText i (numbersOf text) (length out)) (judgedText text (length out)) out next n (judged-as text (length out) i (sym e ∙ f)) t
+
 -- a situation, read from the numbers that were stored
 pub judged-read : (text ms : List ℕ) (nx ny lent : ℕ) → inputOf text ≡ Read nx ny → ms ≡ stored (numbersOf text) (replicate 8759 0) → numbersText ms nx ny lent ≡ judgedText text lent
 unfolding numbersText placesFrom

@@ -29,6 +29,6 @@ linesOf (r ∷ rs) = lineOf r ++ linesOf rs
 unfoldable pub lineIn : Row → List ℕ → List ℕ
 lineIn r part = cond (ltb (length part) 45) part (fronted (lineOf r) part)
 
--- the byte in the column c of a number of which the digits right of it are gone
+-- ---- of a private function: the byte in the column c of a number of which the digits right of it are gone
 abbrev pub restByte : ℕ → ℕ → ℕ
 restByte rest c = cond (eqb rest 0 && ltb c 10) 32 (48 + rest % 10)

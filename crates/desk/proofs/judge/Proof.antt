@@ -3,7 +3,7 @@ use mathlib.Core.Path.{sym, _∙_}
 use native.Mathlib.Omega.{arith}
 use lib.ListN.{length}
 use Rattle.input.proofs.Places.{parts}
-use Rattle.desk.proofs.Judged.{told-as, stored-long, judged-as, judged-read}
+use Rattle.desk.proofs.Judged.{told-as, stored-long, fault-told, judged-read}
 use borrow.Author.Needs.{needs}
 use Rattle.desk.proofs.judge.Statement.{statement}
 use Rattle.desk.proofs.judge.Tie as tie
@@ -88,49 +88,37 @@ same-length-2 : tie.Need-same-length-2
 same-length-2 c = search needs
 
 returns-2 : tie.Need-returns-2
-returns-2 c = let s = c .before .before .before .before .before .before .before .before .before .before .before .before in
-    let call = c .before .before .number-line in
-    told-as _ _ (now (s .args .out)) _ (call .result) (judged-as (now (s .args .text)) (length (now (s .args .out))) _ (sym (c .before .before .before .before .before .before .before .before .read-input .ensures .0) ∙ c .before .before .before .before .before .before .input2 .given .1)) (call .ensures)
+returns-2 c = fault-told (now (c .before .before .before .before .before .before .before .before .before .before .before .before .args .text)) (now (c .before .before .before .before .before .before .before .before .before .before .before .before .args .out)) _ _ _ _ (c .before .before .before .before .before .before .before .before .read-input .ensures .0) (c .before .before .before .before .before .before .input2 .given .1) (c .before .before .number-line .ensures)
 
 same-length-3 : tie.Need-same-length-3
 same-length-3 c = search needs
 
 returns-3 : tie.Need-returns-3
-returns-3 c = let s = c .before .before .before .before .before .before .before .before .before .before .before .before in
-    let call = c .before .before .number-line2 in
-    told-as _ _ (now (s .args .out)) _ (call .result) (judged-as (now (s .args .text)) (length (now (s .args .out))) _ (sym (c .before .before .before .before .before .before .before .before .read-input .ensures .0) ∙ c .before .before .before .before .before .before .input3 .given .1)) (call .ensures)
+returns-3 c = fault-told (now (c .before .before .before .before .before .before .before .before .before .before .before .before .args .text)) (now (c .before .before .before .before .before .before .before .before .before .before .before .before .args .out)) _ _ _ _ (c .before .before .before .before .before .before .before .before .read-input .ensures .0) (c .before .before .before .before .before .before .input3 .given .1) (c .before .before .number-line2 .ensures)
 
 same-length-4 : tie.Need-same-length-4
 same-length-4 c = search needs
 
 returns-4 : tie.Need-returns-4
-returns-4 c = let s = c .before .before .before .before .before .before .before .before .before .before .before .before in
-    let call = c .before .before .number-line3 in
-    told-as _ _ (now (s .args .out)) _ (call .result) (judged-as (now (s .args .text)) (length (now (s .args .out))) _ (sym (c .before .before .before .before .before .before .before .before .read-input .ensures .0) ∙ c .before .before .before .before .before .before .input4 .given .1)) (call .ensures)
+returns-4 c = fault-told (now (c .before .before .before .before .before .before .before .before .before .before .before .before .args .text)) (now (c .before .before .before .before .before .before .before .before .before .before .before .before .args .out)) _ _ _ _ (c .before .before .before .before .before .before .before .before .read-input .ensures .0) (c .before .before .before .before .before .before .input4 .given .1) (c .before .before .number-line3 .ensures)
 
 same-length-5 : tie.Need-same-length-5
 same-length-5 c = search needs
 
 returns-5 : tie.Need-returns-5
-returns-5 c = let s = c .before .before .before .before .before .before .before .before .before .before .before .before in
-    let call = c .before .before .number-line4 in
-    told-as _ _ (now (s .args .out)) _ (call .result) (judged-as (now (s .args .text)) (length (now (s .args .out))) _ (sym (c .before .before .before .before .before .before .before .before .read-input .ensures .0) ∙ c .before .before .before .before .before .before .input5 .given .1)) (call .ensures)
+returns-5 c = fault-told (now (c .before .before .before .before .before .before .before .before .before .before .before .before .args .text)) (now (c .before .before .before .before .before .before .before .before .before .before .before .before .args .out)) _ _ _ _ (c .before .before .before .before .before .before .before .before .read-input .ensures .0) (c .before .before .before .before .before .before .input5 .given .1) (c .before .before .number-line4 .ensures)
 
 same-length-6 : tie.Need-same-length-6
 same-length-6 c = search needs
 
 returns-6 : tie.Need-returns-6
-returns-6 c = let s = c .before .before .before .before .before .before .before .before .before .before .before .before in
-    let call = c .before .before .number-line5 in
-    told-as _ _ (now (s .args .out)) _ (call .result) (judged-as (now (s .args .text)) (length (now (s .args .out))) _ (sym (c .before .before .before .before .before .before .before .before .read-input .ensures .0) ∙ c .before .before .before .before .before .before .input6 .given .1)) (call .ensures)
+returns-6 c = fault-told (now (c .before .before .before .before .before .before .before .before .before .before .before .before .args .text)) (now (c .before .before .before .before .before .before .before .before .before .before .before .before .args .out)) _ _ _ _ (c .before .before .before .before .before .before .before .before .read-input .ensures .0) (c .before .before .before .before .before .before .input6 .given .1) (c .before .before .number-line5 .ensures)
 
 same-length-7 : tie.Need-same-length-7
 same-length-7 c = search needs
 
 returns-7 : tie.Need-returns-7
-returns-7 c = let s = c .before .before .before .before .before .before .before .before .before .before .before .before in
-    let call = c .before .before .number-line6 in
-    told-as _ _ (now (s .args .out)) _ (call .result) (judged-as (now (s .args .text)) (length (now (s .args .out))) _ (sym (c .before .before .before .before .before .before .before .before .read-input .ensures .0) ∙ c .before .before .before .before .before .before .input7 .given .1)) (call .ensures)
+returns-7 c = fault-told (now (c .before .before .before .before .before .before .before .before .before .before .before .before .args .text)) (now (c .before .before .before .before .before .before .before .before .before .before .before .before .args .out)) _ _ _ _ (c .before .before .before .before .before .before .before .before .read-input .ensures .0) (c .before .before .before .before .before .before .input7 .given .1) (c .before .before .number-line6 .ensures)
 
 pub judge-spec : {M : Type 1} → statement M
 judge-spec =
