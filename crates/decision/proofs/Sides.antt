@@ -42,7 +42,7 @@ use Rattle.motion.specs.Motion.{numberAt, movedPlayers, referencesAfter}
 use Rattle.motion.specs.Turned.{changedElement}
 use Rattle.motion.specs.declared.PlayerReference.{PlayerReference}
 use Rattle.motion.proofs.Turned.{moved-players-turned, references-turned}
-use Rattle.decision.specs.Decision.{verdictAt, teamVerdicts, teamExcess, isExcessAsked, emptyList, leavingPlayers, leavingAt, teamMargins, sideMargins, teamDecision, sideDecision, kickerNumbered, sideKicker, kickerOf, kickerIfAny, kickingPlayer}
+use Rattle.decision.specs.Decision.{verdictOn, verdictAt, teamVerdicts, teamExcess, isExcessAsked, emptyList, leavingPlayers, leavingAt, teamMargins, sideMargins, teamDecision, sideDecision, kickerNumbered, sideKicker, kickerOf, kickerIfAny, kickingPlayer}
 use Rattle.decision.specs.HalfTurn.{turned, SameReference, SameReferences, SameSide}
 use Rattle.decision.specs.declared.call.SideDecision.{SideDecision}
 use Rattle.decision.specs.declared.judges.PlayerVerdict.{PlayerVerdict}
@@ -67,7 +67,7 @@ side-margins-turned s side = ap (teamMargins (turnedGame (s .game)) (s .field) s
 
 -- ---- verdicts
 verdict-at-turned : (g : Game) (f : FieldDimensions) (b : Ball) (side : Side) (t : Team) (m : List PlayerMargins) (i : ℕ) → verdictAt (turnedGame g) f (turnedBall b) side (turnedTeam t) m i ≡ verdictAt g f b side t m i
-unfolding verdictAt
+unfolding verdictOn
 verdict-at-turned g f b side t m i =
     ap (λ (q : Player). record { verdict = isIllegallyPositioned (turnedGame g) f (turnedBall b) side (t .goalkeeper) (numberAt i) q (marginsAt m i) }) (at-turned t i)
     ∙ ap (λ (v : Positioning). record { verdict = v }) (verdict-turned g f b side (t .goalkeeper) (numberAt i) (playerAt t i) (marginsAt m i))

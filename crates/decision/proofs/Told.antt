@@ -29,7 +29,7 @@ use Rattle.ball.specs.declared.BallJudgment.{BallJudgment}
 use Rattle.motion.specs.declared.PlayerReference.{PlayerReference}
 use Rattle.places.specs.declared.Placement.{Placement}
 use Rattle.refusals.specs.Refusals.{refusalOf}
-use Rattle.decision.specs.Decision.{verdictAt, teamVerdicts, isExcessAsked, emptyList, teamExcess, leavingPlayers, kickerNumbered, sideKicker, kickingPlayer, ballCalled, wishedPlace, teamMargins, teamDecision, sideMargins, sideDecision, decisionOf, emptyDecision, answerOf}
+use Rattle.decision.specs.Decision.{verdictOn, teamVerdicts, isExcessAsked, emptyList, teamExcess, leavingPlayers, kickerNumbered, sideKicker, kickingPlayer, ballCalled, wishedPlace, teamMargins, teamDecision, sideMargins, sideDecision, decisionOf, emptyDecision, answerOf}
 use Rattle.decision.specs.declared.call.SideDecision.{SideDecision}
 use Rattle.decision.specs.declared.call.Decision.{Decision}
 use Rattle.decision.specs.declared.call.Answer.{Answer}
@@ -37,18 +37,14 @@ use Rattle.decision.specs.declared.judges.PlayerVerdict.{PlayerVerdict}
 use Rattle.decision.specs.declared.judges.KickingPlayer.{KickingPlayer}
 
 -- ---- a verdict
-module _ (g : Game) (f : FieldDimensions) (b : Ball) (side : Side) (t : Team) (margins : List PlayerMargins) (i : ℕ) where
-  verdict : ℕ → Player → MaybeMargins → PlayerVerdict
-  verdict n p m = record { verdict = isIllegallyPositioned g f b side (t .goalkeeper) n p m }
+module _ (g : Game) (f : FieldDimensions) (b : Ball) (side : Side) (keeper : MaybeNumber) (p : Player) (margins : MaybeMargins) (i : ℕ) where
+  verdict : ℕ → PlayerVerdict
+  verdict n = record { verdict = isIllegallyPositioned g f b side keeper n p margins }
 
-  pub verdict-told : (n : ℕ) (p : Player) (m : MaybeMargins) (v : Positioning) → n ≡ numberAt i → p ≡ playerAt t i → m ≡ marginsAt margins i → v ≡ isIllegallyPositioned g f b side (t .goalkeeper) n p m
-      → record { verdict = v } ≡ verdictAt g f b side t margins i
-  unfolding verdict verdictAt
-  verdict-told n p m v en ep em ev =
-      ap (λ (w : Positioning). record { verdict = w }) ev
-      ∙ ap (λ (k : ℕ). verdict k p m) en
-      ∙ ap (λ (q : Player). verdict (numberAt i) q m) ep
-      ∙ ap (verdict (numberAt i) (playerAt t i)) em
+  pub verdict-told : (n : ℕ) (v : Positioning) → n ≡ numberAt i → v ≡ isIllegallyPositioned g f b side keeper n p margins
+      → record { verdict = v } ≡ verdictOn g f b side keeper p margins i
+  unfolding verdict verdictOn
+  verdict-told n v en ev = ap (λ (w : Positioning). record { verdict = w }) ev ∙ ap verdict en
 
 -- ---- an excess list, asked or not
 module _ (g : Game) (t : Team) (margins : List PlayerMargins) (asked : Bool) where

@@ -13,8 +13,10 @@ use Rattle.game.specs.Players.{playerAt, marginsAt, teamOf, listed}
 use Rattle.game.specs.declared.Ball.{Ball}
 use Rattle.game.specs.declared.FieldDimensions.{FieldDimensions}
 use Rattle.game.specs.declared.Game.{Game}
+use Rattle.game.specs.declared.MaybeMargins.{MaybeMargins}
 use Rattle.game.specs.declared.MaybeNumber.{MaybeNumber}
 use Rattle.game.specs.declared.MaybeNumber.the-variants.{NoNumber, Number}
+use Rattle.game.specs.declared.Player.{Player}
 use Rattle.game.specs.declared.MaybeSide.{MaybeSide}
 use Rattle.game.specs.declared.MaybeSide.the-variants.{NoSide, Of}
 use Rattle.game.specs.declared.PlayerList.{PlayerList}
@@ -50,10 +52,13 @@ use Rattle.decision.specs.declared.call.Decision.{Decision}
 use Rattle.decision.specs.declared.call.Answer.{Answer}
 
 -- ---- each player's verdict, Legal too
--- the verdict on the player at the place i, whose number is i + 1
-unfoldable pub verdictAt : Game → FieldDimensions → Ball → Side → Team → List PlayerMargins → ℕ → PlayerVerdict
-verdictAt g f b side t margins i =
-    record { verdict = isIllegallyPositioned g f b side (t .goalkeeper) (numberAt i) (playerAt t i) (marginsAt margins i) }
+-- the verdict on a player of a side with this goalkeeper, at the place i, so that its number is i + 1
+unfoldable pub verdictOn : Game → FieldDimensions → Ball → Side → MaybeNumber → Player → MaybeMargins → ℕ → PlayerVerdict
+verdictOn g f b side keeper p margins i = record { verdict = isIllegallyPositioned g f b side keeper (numberAt i) p margins }
+
+-- the verdict on the player at the place i
+abbrev pub verdictAt : Game → FieldDimensions → Ball → Side → Team → List PlayerMargins → ℕ → PlayerVerdict
+verdictAt g f b side t margins i = verdictOn g f b side (t .goalkeeper) (playerAt t i) (marginsAt margins i) i
 
 -- the verdicts on a side's players by their places
 unfoldable pub teamVerdicts : Game → FieldDimensions → Ball → Side → Team → List PlayerMargins → List PlayerVerdict
@@ -97,13 +102,13 @@ unfoldable pub kickingPlayer : Game → Team → Team → FieldDimensions → Li
 kickingPlayer g home away f homeMargins awayMargins = kickerIfAny (g .«kicking_side») g home away f homeMargins awayMargins
 
 -- ---- the players leaving the field
--- the player at the place i leaves the field, by its own allowance
-abbrev pub isLeavingAt : Team → FieldDimensions → ℕ → Bool
-isLeavingAt t f i = isLeavingTheField (playerAt t i) f (playerAt t i .allowance)
+-- a player leaves the field, by its own allowance
+abbrev pub isLeaving : Player → FieldDimensions → Bool
+isLeaving p f = isLeavingTheField p f (p .allowance)
 
 -- its number, if it does
 abbrev pub leavingAt : Team → FieldDimensions → ℕ → List ℕ
-leavingAt t f i = onlyIf (isLeavingAt t f i) (numberAt i)
+leavingAt t f i = onlyIf (isLeaving (playerAt t i) f) (numberAt i)
 
 -- the numbers of those of a team's players that leave the field, ascending
 unfoldable pub leavingPlayers : Team → FieldDimensions → PlayerList

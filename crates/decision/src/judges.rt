@@ -8,6 +8,7 @@ use autoreferee::Placement;
 use game::Ball;
 use game::FieldDimensions;
 use game::Game;
+use game::MaybeMargins;
 use game::MaybeNumber;
 use game::MaybeSide;
 use game::Player;
@@ -33,22 +34,20 @@ fn number_at(i: usize) -> u8
 }
 
 // The verdict on the player at a place.
-fn verdict_at(
+fn verdict_on(
     game: Game,
     field: FieldDimensions,
     ball: Ball,
     side: Side,
-    team: Team,
-    margins: [PlayerMargins; 20],
+    goalkeeper: MaybeNumber,
+    player: Player,
+    known: MaybeMargins,
     i: usize,
 ) -> PlayerVerdict
     requires { ⌜ i < 20 ⌝ }
-    ensures { λ r. ⌜ r ≡ Spec.verdictAt game field ball side team margins i ⌝ }
+    ensures { λ r. ⌜ r ≡ Spec.verdictOn game field ball side goalkeeper player known i ⌝ }
 {
-    let goalkeeper = team.goalkeeper;
     let number = number_at(i);
-    let player = game::player_at(team, i);
-    let known = game::margins_at(margins, i);
     let verdict = positioning::is_illegally_positioned(
         game,
         field,
@@ -73,12 +72,17 @@ pub fn team_verdicts(
 ) -> [PlayerVerdict; 20]
     ensures { λ r. ⌜ r ≡ Spec.teamVerdicts game field ball side team margins ⌝ }
 {
+    let players = team.players;
+    let goalkeeper = team.goalkeeper;
     let legal = Positioning::Legal;
     let blank = PlayerVerdict { verdict: legal };
     let mut out = [blank; 20];
     let mut i: usize = 0;
     while i < 20 {
-        out[i] = verdict_at(game, field, ball, side, team, margins, i);
+        let player = players[i];
+        let slot = margins[i];
+        let known = slot.margins;
+        out[i] = verdict_on(game, field, ball, side, goalkeeper, player, known, i);
         i += 1;
     }
     out
@@ -101,11 +105,10 @@ fn append_if(wanted: bool, list: PlayerList, number: u8) -> PlayerList
     list
 }
 
-// Whether the player at a place leaves the field, by its own allowance.
-fn is_leaving_at(team: Team, field: FieldDimensions, i: usize) -> bool
-    ensures { λ r. ⌜ r ≡ Spec.isLeavingAt team field i ⌝ }
+// Whether a player leaves the field, by its own allowance.
+fn is_leaving(player: Player, field: FieldDimensions) -> bool
+    ensures { λ r. ⌜ r ≡ Spec.isLeaving player field ⌝ }
 {
-    let player = game::player_at(team, i);
     geometry::is_leaving_the_field(player, field, player.allowance)
 }
 
@@ -113,11 +116,13 @@ fn is_leaving_at(team: Team, field: FieldDimensions, i: usize) -> bool
 pub fn leaving_players(team: Team, field: FieldDimensions) -> PlayerList
     ensures { λ r. ⌜ r ≡ Spec.leavingPlayers team field ⌝ }
 {
+    let players = team.players;
     let numbers = [0u8; 20];
     let mut list = PlayerList { count: 0, numbers };
     let mut i: usize = 0;
     while i < 20 {
-        let leaving = is_leaving_at(team, field, i);
+        let player = players[i];
+        let leaving = is_leaving(player, field);
         list = append_if(leaving, list, number_at(i));
         i += 1;
     }

@@ -68,13 +68,13 @@ abbrev pub seenMargins : SeenPose → FieldDimensions → Float → MaybeMargins
 seenMargins Absent f sign = NoMargins
 seenMargins (Present p) f sign = Known (marginsOf p f sign)
 
--- the margins of the player at the place i
-abbrev pub playerMargins : Team → FieldDimensions → Float → ℕ → PlayerMargins
-playerMargins t f sign i = record { margins = seenMargins (playerAt t i .pose) f sign }
+-- the margins of a player
+abbrev pub playerMargins : Player → FieldDimensions → Float → PlayerMargins
+playerMargins p f sign = record { margins = seenMargins (p .pose) f sign }
 
 -- the margins of a team's players by their places
 unfoldable pub computeMargins : Team → FieldDimensions → Float → List PlayerMargins
-computeMargins t f sign = table 20 (playerMargins t f sign)
+computeMargins t f sign = table 20 (λ i. playerMargins (playerAt t i) f sign)
 
 -- no part of the player is on the field of play
 abbrev pub isOutsideField : PlayerPose → FieldDimensions → Bool

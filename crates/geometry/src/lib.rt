@@ -77,11 +77,10 @@ fn seen_margins(pose: SeenPose, field: FieldDimensions, sign: f32) -> MaybeMargi
     }
 }
 
-// The margins of the player with the number i + 1.
-fn player_margins(team: Team, field: FieldDimensions, sign: f32, i: usize) -> PlayerMargins
-    ensures { λ r. ⌜ r ≡ Spec.playerMargins team field sign i ⌝ }
+// The margins of a player.
+fn player_margins(player: Player, field: FieldDimensions, sign: f32) -> PlayerMargins
+    ensures { λ r. ⌜ r ≡ Spec.playerMargins player field sign ⌝ }
 {
-    let player = game::player_at(team, i);
     let pose = player.pose;
     let margins = seen_margins(pose, field, sign);
     PlayerMargins { margins }
@@ -91,12 +90,14 @@ fn player_margins(team: Team, field: FieldDimensions, sign: f32, i: usize) -> Pl
 pub fn compute_margins(team: Team, field: FieldDimensions, sign: f32) -> [PlayerMargins; 20]
     ensures { λ r. ⌜ r ≡ Spec.computeMargins team field sign ⌝ }
 {
+    let players = team.players;
     let none = MaybeMargins::NoMargins;
     let blank = PlayerMargins { margins: none };
     let mut out = [blank; 20];
     let mut i: usize = 0;
     while i < 20 {
-        out[i] = player_margins(team, field, sign, i);
+        let player = players[i];
+        out[i] = player_margins(player, field, sign);
         i += 1;
     }
     out

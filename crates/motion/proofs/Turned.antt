@@ -50,7 +50,7 @@ unless-changed : (a b m : Bool) (r : ReferencePose) → unlessMoved m (changedRe
 unless-changed a b true r = refl
 unless-changed a b false r = refl
 
-reference-changed : (a b : Bool) (t : Team) (i : ℕ) → referenceAfter (changedTeam a b t) i ≡ changedElement a b (referenceAfter t i)
+reference-changed : (a b : Bool) (t : Team) (i : ℕ) → referenceAfter (playerAt (changedTeam a b t) i) ≡ changedElement a b (referenceAfter (playerAt t i))
 reference-changed a b t i =
     ap (λ (r : ReferencePose). record { reference = r })
     (ap₂ (λ (m : Bool) (q : Player). unlessMoved m (q .reference)) (moved-at a b t i) (player-at-changed a b t i) ∙ unless-changed a b (hasMoved (playerAt t i)) (playerAt t i .reference))
@@ -58,8 +58,8 @@ reference-changed a b t i =
 pub references-changed : (a b : Bool) (t : Team) → referencesAfter (changedTeam a b t) ≡ map (changedElement a b) (referencesAfter t)
 unfolding referencesAfter
 references-changed a b t =
-    table-same 20 (referenceAfter (changedTeam a b t)) (λ k. changedElement a b (referenceAfter t k)) (λ i h. reference-changed a b t i)
-    ∙ map-table (changedElement a b) 20 (referenceAfter t)
+    table-same 20 (λ k. referenceAfter (playerAt (changedTeam a b t) k)) (λ k. changedElement a b (referenceAfter (playerAt t k))) (λ i h. reference-changed a b t i)
+    ∙ map-table (changedElement a b) 20 (λ k. referenceAfter (playerAt t k))
 
 -- ---- the half-turn
 pub moved-turned : (q : Player) → hasMoved (turnedPlayer q) ≡ hasMoved q

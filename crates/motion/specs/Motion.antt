@@ -73,10 +73,10 @@ abbrev pub unlessMoved : Bool → ReferencePose → ReferencePose
 unlessMoved true r = NoReference
 unlessMoved false r = r
 
--- the reference pose of the player at a place after the check
-abbrev pub referenceAfter : Team → ℕ → PlayerReference
-referenceAfter t i = record { reference = unlessMoved (hasMoved (playerAt t i)) (playerAt t i .reference) }
+-- the reference pose of a player after the check
+abbrev pub referenceAfter : Player → PlayerReference
+referenceAfter p = record { reference = unlessMoved (hasMoved p) (p .reference) }
 
 -- the reference poses after the check, by the players' places
 unfoldable pub referencesAfter : Team → List PlayerReference
-referencesAfter t = table 20 (referenceAfter t)
+referencesAfter t = table 20 (λ i. referenceAfter (playerAt t i))

@@ -78,11 +78,13 @@ fn number_at(i: usize) -> u8
 pub fn moved_players(team: Team) -> PlayerList
     ensures { λ r. ⌜ r ≡ Spec.movedPlayers team ⌝ }
 {
+    let players = team.players;
     let numbers = [0u8; 20];
     let mut list = PlayerList { count: 0, numbers };
     let mut i: usize = 0;
     while i < 20 {
-        let moved = has_moved(game::player_at(team, i));
+        let player = players[i];
+        let moved = has_moved(player);
         list = append_if(moved, list, number_at(i));
         i += 1;
     }
@@ -95,10 +97,9 @@ pub struct PlayerReference {
 }
 
 // The reference pose of one player after it was checked: none once it has moved.
-fn reference_after(team: Team, i: usize) -> PlayerReference
-    ensures { λ r. ⌜ r ≡ Spec.referenceAfter team i ⌝ }
+fn reference_after(player: Player) -> PlayerReference
+    ensures { λ r. ⌜ r ≡ Spec.referenceAfter player ⌝ }
 {
-    let player = game::player_at(team, i);
     let moved = has_moved(player);
     if moved {
         let reference = ReferencePose::NoReference;
@@ -112,12 +113,14 @@ fn reference_after(team: Team, i: usize) -> PlayerReference
 pub fn references_after(team: Team) -> [PlayerReference; 20]
     ensures { λ r. ⌜ r ≡ Spec.referencesAfter team ⌝ }
 {
+    let players = team.players;
     let none = ReferencePose::NoReference;
     let blank = PlayerReference { reference: none };
     let mut out = [blank; 20];
     let mut i: usize = 0;
     while i < 20 {
-        out[i] = reference_after(team, i);
+        let player = players[i];
+        out[i] = reference_after(player);
         i += 1;
     }
     out

@@ -1,13 +1,18 @@
 -- The least of many distances, found a part at a time. Assumes nothing.
 use mathlib.Core.Path.{_≡_, refl, sym, ap, ap₂, _∙_}
+use mathlib.Core.Bool.{Bool, true, false, _||_, true≢false}
 use mathlib.Core.List.{List, [], _∷_, _++_, map}
 use Prim.Native.Nat.{ℕ, zero, suc}
-use lib.Ieee.{Float}
+use lib.Dec.{T}
+use lib.Ieee.{Float, binary32, fits, le}
 use Rattle.lists.specs.Fold.{foldTo}
 use Rattle.lists.specs.Table.{table}
 use Rattle.lists.specs.Gather.{flatTo}
-use Rattle.floats.specs.Leaves.{minimumNumber}
+use Rattle.floats.specs.Leaves.{minimumNumber, abs}
+use Rattle.floats.proofs.Laws.Signs.{hypot-comm}
+use Rattle.floats.proofs.Laws.Distance.{hypot-beyond}
 use Rattle.penalty.specs.Penalty.{leastOf}
+use Rattle.penalty.specs.Walk.{nearer}
 
 -- the distances of two parts one after the other
 pub least-append : (a : Float) (l m : List Float) → leastOf a (l ++ m) ≡ leastOf (leastOf a l) m
@@ -38,3 +43,12 @@ module _ {A : Type 0} (d : A → Float) where
   unfolding foldTo
   least-table g s zero = refl
   least-table g s (suc n) = ap (λ (a : Float). minimumNumber a (d (g n))) (least-table g s n) ∙ sym (ap (λ (l : List A). leastOf s (map d l)) (table-last g n) ∙ least-parts s (table n g) (g n ∷ []))
+
+-- ---- a spot that is as far as the least in one direction changes nothing
+pub far-kept : (least dx dy : Float) → T (fits binary32 least) → T (fits binary32 dx) → T (fits binary32 dy) → (le least (abs dx) || le least (abs dy)) ≡ true → nearer least dx dy ≡ least
+far-kept least dx dy n p q h = go (le least (abs dx)) (le least (abs dy)) refl refl h
+  where
+    go : (a b : Bool) → le least (abs dx) ≡ a → le least (abs dy) ≡ b → (a || b) ≡ true → nearer least dx dy ≡ least
+    go true b e f k = hypot-beyond least dx dy n p q e
+    go false true e f k = ap (minimumNumber least) (hypot-comm dx dy) ∙ hypot-beyond least dy dx n q p f
+    go false false e f k = absurd (true≢false (sym k))

@@ -35,7 +35,7 @@ use Rattle.places.specs.declared.Placement.the-variants.{NoPlace}
 use Rattle.places.proofs.Signs.{place-changed, copysign-changed}
 use Rattle.candidates.specs.Candidates.{firstCandidate}
 use Rattle.places.proofs.Numbered.{numbered-changed}
-use Rattle.penalty.specs.Penalty.{Spot, spotOf, spotsAt, teamSpots, earlierSpots, leftOut, occupied, distanceFrom, leastOf, clearance, Found, ifEnough, firstReaching, notBelow, laterGreater, lastGreatest, orElse, chosen, startOf, lowestOf, highestOf, othersOf, teamPlace, edgeOf, inward, clearFrom, posePlace, seenPlace, teamOfSide, placeForPenalty}
+use Rattle.penalty.specs.Penalty.{Spot, spotOf, spotUnless, spotsAt, teamSpots, earlierSpots, leftOut, occupied, distanceFrom, leastOf, clearance, Found, ifEnough, firstReaching, notBelow, laterGreater, lastGreatest, orElse, chosen, startOf, lowestOf, highestOf, othersOf, teamPlace, edgeOf, inward, clearFrom, posePlace, seenPlace, teamOfSide, placeForPenalty}
 use Rattle.penalty.proofs.Sizes.{Fit, heading-turned}
 
 -- a spot: x changes its sign where a is true, and y where b is
@@ -70,7 +70,7 @@ module _ (a b : Bool) where
 
   -- the spots of a team's players
   spots-at-changed : (t : Team) (skip i : ℕ) → spotsAt (changedTeam a b t) skip i ≡ map (changedSpot a b) (spotsAt t skip i)
-  unfolding spotsAt
+  unfolding spotUnless
   spots-at-changed t skip i = ap (λ (q : Player). cond (eqb (suc i) skip) [] (spotOf (q .pose))) (player-at-changed a b t i) ∙ go (eqb (suc i) skip)
     where
       go : (e : Bool) → cond e [] (spotOf (changedSeen a b (playerAt t i .pose))) ≡ map (changedSpot a b) (cond e [] (spotOf (playerAt t i .pose)))

@@ -17,6 +17,7 @@ use Rattle.game.specs.declared.Side.the-variants.{Home, Away}
 use Rattle.game.specs.declared.SeenPose.{SeenPose}
 use Rattle.game.specs.declared.SeenPose.the-variants.{Absent, Present}
 use Rattle.game.specs.declared.PlayerPose.{PlayerPose}
+use Rattle.game.specs.declared.Player.{Player}
 use Rattle.game.specs.declared.Team.{Team}
 use Rattle.game.specs.declared.FieldDimensions.{FieldDimensions}
 use Rattle.game.specs.declared.SideMapping.{SideMapping}
@@ -36,9 +37,13 @@ abbrev pub spotOf : SeenPose → List Spot
 spotOf Absent = []
 spotOf (Present p) = record { x = p .x; y = p .y } ∷ []
 
+-- the spot of the player at the place i, unless its number is skip
+unfoldable pub spotUnless : ℕ → ℕ → Player → List Spot
+spotUnless skip i p = cond (eqb (suc i) skip) [] (spotOf (p .pose))
+
 -- the spots of a team's present players in their order, without the one with the number skip
-unfoldable pub spotsAt : Team → ℕ → ℕ → List Spot
-spotsAt t skip i = cond (eqb (suc i) skip) [] (spotOf (playerAt t i .pose))
+abbrev pub spotsAt : Team → ℕ → ℕ → List Spot
+spotsAt t skip i = spotUnless skip i (playerAt t i)
 
 abbrev pub teamSpots : Team → ℕ → List Spot
 teamSpots t skip = flatTo 20 (spotsAt t skip)
@@ -53,7 +58,7 @@ leftOut side number other = cond (sameSide side other) number 0
 
 -- every other present player of both sides, penalised ones too, then the earlier places
 unfoldable pub occupied : Team → Team → Side → ℕ → List Float → List Float → List Spot
-unfolding spotsAt
+unfolding spotUnless
 occupied home away side number xs ys = teamSpots home (leftOut side number Home) ++ (teamSpots away (leftOut side number Away) ++ earlierSpots xs ys)
 
 -- ---- how much space there is

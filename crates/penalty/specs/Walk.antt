@@ -7,20 +7,21 @@ use lib.Ieee.{Float, nan, le}
 use Rattle.floats.specs.Arithmetic.{_-₃₂_, _*₃₂_}
 use Rattle.floats.specs.Leaves.{minimumNumber, totalOrder}
 use Rattle.floats.specs.Hypot.{hypot}
+use Rattle.game.specs.declared.Player.{Player}
 use Rattle.game.specs.declared.Team.{Team}
 use Rattle.candidates.specs.Candidates.{candidateAt, isCandidate}
 use Rattle.penalty.specs.declared.Others.{Others}
 use Rattle.penalty.specs.declared.Choice.{Choice}
 use Rattle.penalty.specs.declared.Search.{Search}
-use Rattle.penalty.specs.Penalty.{clearance, leastOf, distanceFrom, spotsAt, Spot, teamSpots, earlierSpots, notBelow}
+use Rattle.penalty.specs.Penalty.{clearance, leastOf, distanceFrom, spotUnless, Spot, teamSpots, earlierSpots, notBelow}
 
 -- the lesser of the least distance so far and of that of (dx, dy)
 abbrev pub nearer : Float → Float → Float → Float
 nearer least dx dy = minimumNumber least (hypot dx dy)
 
 -- the least distance after the player at the place i
-abbrev pub nearPlayer : Team → ℕ → Float → Float → ℕ → Float → Float
-nearPlayer t skip x y i least = leastOf least (map (distanceFrom x y) (spotsAt t skip i))
+abbrev pub nearPlayer : Player → ℕ → Float → Float → ℕ → Float → Float
+nearPlayer p skip x y i least = leastOf least (map (distanceFrom x y) (spotUnless skip i p))
 
 -- the least distance after the earlier place k
 abbrev pub nearPlace : List Float → List Float → Float → Float → ℕ → Float → Float
@@ -28,7 +29,7 @@ nearPlace xs ys x y k least = nearer least (getD xs k nan -₃₂ x) (getD ys k 
 
 -- the others' spots, then the earlier places
 unfoldable pub spotsOf : Others → List Float → List Float → List Spot
-unfolding spotsAt
+unfolding spotUnless
 spotsOf o xs ys = teamSpots (o .home) (o .«skip_home») ++ (teamSpots (o .away) (o .«skip_away») ++ earlierSpots xs ys)
 
 -- the choice after the candidate x with the clearance c: kept where the distance was reached, taken where c reaches it or is not below the greatest so far

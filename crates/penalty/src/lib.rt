@@ -21,10 +21,14 @@ use game::Team;
 // The f32 nearest to pi.
 const PI: f32 = 3.14159274;
 
-// The lesser of the least distance so far and that of one spot. A spot that is too far in one direction alone cannot be nearer, so that its distance is not computed.
+// The lesser of the least distance so far and that of one spot. One that is as far in a single direction is no nearer, so that its distance is not computed.
 fn nearer(least: f32, dx: f32, dy: f32) -> f32
     ensures { λ r. ⌜ r ≡ Walk.nearer least dx dy ⌝ }
 {
+    let far = (floats::abs(dx) >= least) | (floats::abs(dy) >= least);
+    if far {
+        return least;
+    }
     floats::min(least, floats::hypot(dx, dy))
 }
 
@@ -37,12 +41,11 @@ fn near_pose(least: f32, pose: SeenPose, x: f32, y: f32) -> f32
     }
 }
 
-fn near_player(least: f32, team: Team, skip: u8, i: usize, x: f32, y: f32) -> f32
+fn near_player(least: f32, player: Player, skip: u8, i: usize, x: f32, y: f32) -> f32
     requires { ⌜ i < 20 ⌝ }
-    ensures { λ r. ⌜ r ≡ Walk.nearPlayer team skip x y i least ⌝ }
+    ensures { λ r. ⌜ r ≡ Walk.nearPlayer player skip x y i least ⌝ }
 {
-    let p = game::player_at(team, i);
-    let pose = p.pose;
+    let pose = player.pose;
     let number = (i + 1) as u8;
     if number == skip {
         return least;
@@ -53,10 +56,12 @@ fn near_player(least: f32, team: Team, skip: u8, i: usize, x: f32, y: f32) -> f3
 fn near_team(least: f32, team: Team, skip: u8, x: f32, y: f32) -> f32
     ensures { λ r. ⌜ r ≡ Spec.leastOf least (map (Spec.distanceFrom x y) (Spec.teamSpots team skip)) ⌝ }
 {
+    let players = team.players;
     let mut acc = least;
     let mut i: usize = 0;
     while i < 20 {
-        acc = near_player(acc, team, skip, i, x, y);
+        let player = players[i];
+        acc = near_player(acc, player, skip, i, x, y);
         i += 1;
     }
     acc

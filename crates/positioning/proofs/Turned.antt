@@ -98,11 +98,11 @@ player-at-changed a b t i = List·getD-map (changedPlayer a b) (t .players) i no
 
 pub compute-margins-changed : (a b : Bool) (t : Team) (f : FieldDimensions) (s : Float) → computeMargins (changedTeam a b t) f (signed a s) ≡ computeMargins t f s
 unfolding computeMargins
-compute-margins-changed a b t f s = table-same 20 (playerMargins (changedTeam a b t) f (signed a s)) (playerMargins t f s) (λ i h. same i)
+compute-margins-changed a b t f s = table-same 20 (λ i. playerMargins (playerAt (changedTeam a b t) i) f (signed a s)) (λ i. playerMargins (playerAt t i) f s) (λ i h. same i)
   where
-    same : (i : ℕ) → playerMargins (changedTeam a b t) f (signed a s) i ≡ playerMargins t f s i
+    same : (i : ℕ) → playerMargins (playerAt (changedTeam a b t) i) f (signed a s) ≡ playerMargins (playerAt t i) f s
     same i =
-        ap (λ (q : Player). record { margins = seenMargins (q .pose) f (signed a s) }) (player-at-changed a b t i)
+        ap (λ (q : Player). playerMargins q f (signed a s)) (player-at-changed a b t i)
         ∙ ap (λ (m : MaybeMargins). record { margins = m }) (seen-margins-changed a b (playerAt t i .pose) f s)
 
 pub margins-turned : (p : PlayerPose) (f : FieldDimensions) (s : Float) → marginsOf (turnedPose p) f (neg s) ≡ marginsOf p f s

@@ -80,8 +80,8 @@ referenceFits (Reference p) = poseFits p
 abbrev pub playerFits : Player → Bool
 playerFits p = seenFits (p .pose) && referenceFits (p .reference) && isCoordinate (p .allowance)
 
-abbrev pub playersFitMore : Team → ℕ → Bool → Bool
-playersFitMore t i b = b && playerFits (playerAt t i)
+abbrev pub playersFitMore : Player → Bool → Bool
+playersFitMore p b = b && playerFits p
 
 -- each of the 20 players
 unfoldable pub teamFits : Team → Bool

@@ -91,19 +91,21 @@ fn player_fits(p: Player) -> bool
     seen_fits(pose) & reference_fits(reference) & is_coordinate(p.allowance)
 }
 
-fn players_fit_more(team: Team, i: usize, so_far: bool) -> bool
-    ensures { λ r. ⌜ r ≡ Spec.playersFitMore team i «so_far» ⌝ }
+fn players_fit_more(player: Player, so_far: bool) -> bool
+    ensures { λ r. ⌜ r ≡ Spec.playersFitMore player «so_far» ⌝ }
 {
-    so_far & player_fits(game::player_at(team, i))
+    so_far & player_fits(player)
 }
 
 fn team_fits(team: Team) -> bool
     ensures { λ r. ⌜ r ≡ Spec.teamFits team ⌝ }
 {
+    let players = team.players;
     let mut ok = true;
     let mut i: usize = 0;
     while i < 20 {
-        ok = players_fit_more(team, i, ok);
+        let player = players[i];
+        ok = players_fit_more(player, ok);
         i += 1;
     }
     ok

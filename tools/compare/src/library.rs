@@ -25,6 +25,27 @@ pub fn sheet(words: &[u32], xs: &[f32], ys: &[f32], sheet: &mut [u8]) -> i64 {
     }
 }
 
+/// The same with `room` bytes of the vector's capacity, which hold nothing yet; the vector then holds what was written.
+pub fn sheet_fresh(words: &[u32], xs: &[f32], ys: &[f32], lent: &mut Vec<u8>, room: usize) -> i64 {
+    assert!(lent.is_empty() && room <= lent.capacity());
+    // SAFETY: as above; the entry writes the bytes that it counts, so that these are initialised.
+    unsafe {
+        let n = referee_sheet(words.as_ptr(), words.len(), xs.as_ptr(), xs.len(), ys.as_ptr(), ys.len(), lent.as_mut_ptr(), room);
+        lent.set_len(usize::try_from(n).unwrap_or(0));
+        n
+    }
+}
+
+pub fn candidates_fresh(start: f32, min: f32, max: f32, step: f32, lent: &mut Vec<f32>, room: usize) -> i64 {
+    assert!(lent.is_empty() && room <= lent.capacity());
+    // SAFETY: as above.
+    unsafe {
+        let n = referee_candidates(start, min, max, step, lent.as_mut_ptr(), room);
+        lent.set_len(usize::try_from(n).unwrap_or(0));
+        n
+    }
+}
+
 pub fn candidates(start: f32, min: f32, max: f32, step: f32, list: &mut [f32]) -> i64 {
     // SAFETY: as above.
     unsafe { referee_candidates(start, min, max, step, list.as_mut_ptr(), list.len()) }

@@ -1,5 +1,6 @@
 //! Compares the port with the original Rust. See README.md.
 
+mod bench;
 mod cases;
 mod compare;
 mod decision;
@@ -7,9 +8,11 @@ mod entries;
 mod generate;
 mod leaves;
 mod library;
+mod memory;
 mod refusals;
 mod situation;
 mod slips;
+mod stack;
 mod stand_ins;
 mod turn;
 
@@ -43,6 +46,9 @@ compare leaves [COUNT] [SEED]      compares the leaves
 compare motion                     tries every distance at which motion could turn on std's hypot
 compare judge                      reads one situation as the program judge does and prints the three sheets
 compare until COUNT SEED           compares until the first difference
+compare bench [SEED] [REPEATS]     times the whole call beside the original
+compare memory [COUNT] [SEED]      calls the entries for valgrind
+compare stack [COUNT] [SEED]       measures the stack that a call takes
 compare slips [COUNT] [SEED]       looks for a situation that shows each slip, COUNT at most
 ";
 
@@ -61,6 +67,9 @@ fn main() {
         "candidates" => entries::compare_candidates(number(0, 100_000), number(1, 1)),
         "leaves" => entries::compare_leaves(number(0, 1_000_000), number(1, 1)),
         "motion" => entries::compare_motion(),
+        "bench" => bench::run(number(0, 1), number(1, 101) as usize),
+        "memory" => memory::run(number(0, 4000), number(1, 1)),
+        "stack" => stack::run(number(0, 4000), number(1, 1)),
         "judge" => compare::judge(),
         "until" => compare::until(number(0, 100_000), number(1, 1)),
         "slips" => compare::try_slips(number(0, 100_000), number(1, 1)),

@@ -7,7 +7,7 @@ use native.Mathlib.Nat.{le-refl, le-of-lt, le-trans, le-of-eq, lt-of-lt-of-le, l
 use native.Mathlib.Omega.{arith}
 use lib.IntN.{ℤ}
 use lib.Dec.{T, T-not, leb}
-use lib.Ieee.{Float, nan, inf, fin, binary32, down, le, isNan, ofBits, toBits}
+use lib.Ieee.{Float, nan, inf, fin, binary32, down, lt, eq, le, fits, isNan, ofBits, toBits}
 use lib.Ieee.Fits.{down-pos}
 use lib.Ieee.Bits.{ofBits-fits, toBits-ofBits}
 use lib.Ieee.Digits.{Equals}
@@ -207,3 +207,40 @@ pub hypot-skips : (least x y : Float) → Number binary32 least → Finite binar
 hypot-skips least x y n p q h =
     min-left binary32 least (hypot x y) (n .fit) (hypot-number x y p q .fit) (hypot-sign x y)
     (le-trans (le→≤ binary32 least (abs x) n (abs-number x p) h) (le→≤ binary32 (abs x) (hypot x y) (abs-number x p) (hypot-number x y p q) (hypot-left x y p q)))
+
+-- ---- the same for every value of the format, a NaN and an infinity too
+le-number : (least x : Float) → le least x ≡ true → T (not (isNan least))
+unfolding le lt eq isNan
+le-number nan x h = true≢false (sym h)
+le-number (inf s) x h = tt
+le-number (fin s m e) x h = tt
+
+min-nan : (least : Float) → T (not (isNan least)) → minimumNumber least nan ≡ least
+unfolding minimumNumber isNan
+min-nan nan h = absurd h
+min-nan (inf s) h = refl
+min-nan (fin s m e) h = refl
+
+min-infinite : (least : Float) → Number binary32 least → minimumNumber least (inf false) ≡ least
+unfolding negative height fits
+min-infinite least n = min-left binary32 least (inf false) (n .fit) tt refl (height-top binary32 least (n .fit) (n .no-nan))
+
+le-nan : (least : Float) → le least nan ≡ false
+unfolding le lt eq
+le-nan nan = refl
+le-nan (inf s) = refl
+le-nan (fin s m e) = refl
+
+pub hypot-beyond : (least x y : Float) → T (fits binary32 least) → T (fits binary32 x) → T (fits binary32 y) → le least (abs x) ≡ true → minimumNumber least (hypot x y) ≡ least
+unfolding hypot withSign
+hypot-beyond least x y n p q h = cases x y p q h
+  where
+    number : Number binary32 least
+    number = record { fit = n; no-nan = le-number least (abs x) h }
+
+    cases : (x y : Float) → T (fits binary32 x) → T (fits binary32 y) → le least (abs x) ≡ true → minimumNumber least (hypot x y) ≡ least
+    cases nan y p q h = absurd (true≢false (sym h ∙ le-nan least))
+    cases (inf s) y p q h = min-infinite least number
+    cases (fin s m e) nan p q h = min-nan least (number .no-nan)
+    cases (fin s m e) (inf t) p q h = min-infinite least number
+    cases (fin s m e) (fin t m' e') p q h = hypot-skips least (fin s m e) (fin t m' e') number (record { fit = p; finite = tt }) (record { fit = q; finite = tt }) h

@@ -2,9 +2,6 @@ use borrow.Author.Needs.{needs}
 use Rattle.geometry.proofs.player_margins.Statement.{statement}
 use Rattle.geometry.proofs.player_margins.Tie as tie
 
-player-at-requires : tie.Need-player-at-requires
-player-at-requires c κs = search needs
-
 seen-margins-requires : tie.Need-seen-margins-requires
 seen-margins-requires c κs = search needs
 
@@ -12,4 +9,4 @@ returns : tie.Need-returns
 returns c = cc
 
 pub player-margins-spec : {M : Type 1} → statement M
-player-margins-spec = tie.close (tie.spec player-at-requires seen-margins-requires returns)
+player-margins-spec = tie.close (tie.spec seen-margins-requires returns)

@@ -2,20 +2,28 @@
 use mathlib.Core.Path.{_≡_, refl}
 use Prim.Native.Nat.{_≤_, _-_}
 use borrow.Author.Needs.{needs}
+use lib.ListN.{getD}
 use Rattle.lists.specs.Table.{filled}
 use Rattle.lists.proofs.Table.{turn, done}
+use Rattle.game.specs.Players.{nobody}
 use Rattle.motion.specs.Motion.{referenceAfter, referencesAfter}
 use Rattle.motion.proofs.references_after.Statement.{statement}
 use Rattle.motion.proofs.references_after.Tie as tie
 
 abbrev Inv-loop : tie.InvT-loop
-Inv-loop team out₀ i₀ out i = (i ≤ 20) × (out ≡ filled (referenceAfter team) out₀ i)
+Inv-loop players out₀ i₀ out i = (i ≤ 20) × (out ≡ filled (λ k. referenceAfter (getD players k nobody)) out₀ i)
 
 abbrev μ-loop : tie.MeasureT-loop
-μ-loop team out₀ i₀ out i = 20 - i
+μ-loop players out₀ i₀ out i = 20 - i
 
 loop-holds : tie.Need-loop-holds Inv-loop μ-loop
 loop-holds c = (search needs, refl)
+
+mul-player : tie.Need-mul-player Inv-loop μ-loop
+mul-player c = search needs
+
+array-copy-out-player : tie.Need-array-copy-out-player Inv-loop μ-loop
+array-copy-out-player c = search needs
 
 reference-after-requires : tie.Need-reference-after-requires Inv-loop μ-loop
 reference-after-requires c κs = search needs
@@ -33,7 +41,7 @@ loop-less : tie.Need-loop-less Inv-loop μ-loop
 loop-less c = search needs
 
 loop-again : tie.Need-loop-again Inv-loop μ-loop
-loop-again c = (search needs, turn _ _ _ _ _ (search needs) (c .before .before .loop .inv .1) (c .reference-after .ensures))
+loop-again c = (search needs, turn _ _ _ _ _ (search needs) (c .before .before .before .loop .inv .1) (c .reference-after .ensures))
 
 returns : tie.Need-returns Inv-loop μ-loop
 unfolding referencesAfter
@@ -46,6 +54,8 @@ references-after-spec =
     Inv-loop
     μ-loop
     loop-holds
+    mul-player
+    array-copy-out-player
     reference-after-requires
     mul-out
     array-set-from-out

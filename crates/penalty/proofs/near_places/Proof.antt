@@ -3,8 +3,8 @@ use mathlib.Core.Path.{_≡_, _∙_}
 use borrow.Author.Needs.{needs}
 use Rattle.lists.specs.Fold.{foldTo}
 use Rattle.lists.proofs.Fold.{fold-none, fold-turn, fold-done}
-use Rattle.penalty.specs.Walk.{nearPlayer, nearPlace}
-use Rattle.penalty.specs.Penalty.{distanceFrom, spotsAt, Spot}
+use Rattle.penalty.specs.Walk.{nearPlace}
+use Rattle.penalty.specs.Penalty.{distanceFrom, Spot}
 use Rattle.penalty.proofs.Nearest.{least-fold, least-table}
 use lib.ListN.{length, getD}
 use lib.Ieee.{nan}

@@ -2,9 +2,8 @@
 use borrow.Author.Needs.{needs}
 use Prim.Native.Nat.{ℕ, _≤_, _-_}
 use mathlib.Core.Path.{_≡_}
-use lib.ListN.{length, getD}
-use lib.Ieee.{nan}
-use Rattle.game.specs.Players.{playerAt}
+use lib.ListN.{getD}
+use Rattle.game.specs.Players.{nobody}
 use Rattle.refusals.specs.Refusals.{playerFits, teamFits}
 use Rattle.lists.specs.Every.{everyTo}
 use Rattle.lists.proofs.Every.{every-none, every-turn, every-done}
@@ -12,13 +11,19 @@ use Rattle.refusals.proofs.team_fits.Statement.{statement}
 use Rattle.refusals.proofs.team_fits.Tie as tie
 
 abbrev Inv-loop : tie.InvT-loop
-Inv-loop team ok₀ i₀ ok i = (i ≤ 20) × (ok ≡ everyTo i (λ k. playerFits (playerAt team k)))
+Inv-loop players ok₀ i₀ ok i = (i ≤ 20) × (ok ≡ everyTo i (λ k. playerFits (getD players k nobody)))
 
 abbrev μ-loop : tie.MeasureT-loop
-μ-loop team ok₀ i₀ ok i = 20 - i
+μ-loop players ok₀ i₀ ok i = 20 - i
 
 loop-holds : tie.Need-loop-holds Inv-loop μ-loop
 loop-holds c = (search needs, every-none _)
+
+mul-player : tie.Need-mul-player Inv-loop μ-loop
+mul-player c = search needs
+
+array-copy-out-player : tie.Need-array-copy-out-player Inv-loop μ-loop
+array-copy-out-player c = search needs
 
 players-fit-more-requires : tie.Need-players-fit-more-requires Inv-loop μ-loop
 players-fit-more-requires c κs = search needs
@@ -30,7 +35,7 @@ loop-less : tie.Need-loop-less Inv-loop μ-loop
 loop-less c = search needs
 
 loop-again : tie.Need-loop-again Inv-loop μ-loop
-loop-again c = (search needs, every-turn _ _ _ _ (c .before .before .loop .inv .1) (c .players-fit-more .ensures))
+loop-again c = (search needs, every-turn _ _ _ _ (c .before .before .before .loop .inv .1) (c .players-fit-more .ensures))
 
 returns : tie.Need-returns Inv-loop μ-loop
 unfolding teamFits
@@ -43,6 +48,8 @@ team-fits-spec =
     Inv-loop
     μ-loop
     loop-holds
+    mul-player
+    array-copy-out-player
     players-fit-more-requires
     add-i
     loop-less

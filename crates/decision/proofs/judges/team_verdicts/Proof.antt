@@ -2,23 +2,38 @@
 use mathlib.Core.Path.{_≡_, refl}
 use Prim.Native.Nat.{_≤_, _-_}
 use borrow.Author.Needs.{needs}
+use lib.ListN.{getD}
 use Rattle.lists.specs.Table.{filled}
 use Rattle.lists.proofs.Table.{turn, done}
-use Rattle.decision.specs.Decision.{verdictAt, teamVerdicts}
+use Rattle.game.specs.Players.{nobody, marginsAt}
+use Rattle.decision.specs.Decision.{verdictOn, teamVerdicts}
 use Rattle.decision.proofs.judges.team_verdicts.Statement.{statement}
 use Rattle.decision.proofs.judges.team_verdicts.Tie as tie
 
 abbrev Inv-loop : tie.InvT-loop
-Inv-loop game field ball side team margins out₀ i₀ out i = (i ≤ 20) × (out ≡ filled (verdictAt game field ball side team margins) out₀ i)
+Inv-loop game field ball side margins players goalkeeper out₀ i₀ out i =
+    (i ≤ 20) × (out ≡ filled (λ k. verdictOn game field ball side goalkeeper (getD players k nobody) (marginsAt margins k) k) out₀ i)
 
 abbrev μ-loop : tie.MeasureT-loop
-μ-loop game field ball side team margins out₀ i₀ out i = 20 - i
+μ-loop game field ball side margins players goalkeeper out₀ i₀ out i = 20 - i
 
 loop-holds : tie.Need-loop-holds Inv-loop μ-loop
 loop-holds c = (search needs, refl)
 
-verdict-at-requires : tie.Need-verdict-at-requires Inv-loop μ-loop
-verdict-at-requires c κs = search needs
+mul-player : tie.Need-mul-player Inv-loop μ-loop
+mul-player c = search needs
+
+array-copy-out-player : tie.Need-array-copy-out-player Inv-loop μ-loop
+array-copy-out-player c = search needs
+
+mul-slot : tie.Need-mul-slot Inv-loop μ-loop
+mul-slot c = search needs
+
+array-copy-out-slot : tie.Need-array-copy-out-slot Inv-loop μ-loop
+array-copy-out-slot c = search needs
+
+verdict-on-requires : tie.Need-verdict-on-requires Inv-loop μ-loop
+verdict-on-requires c κs = search needs
 
 array-set-from-out : tie.Need-array-set-from-out Inv-loop μ-loop
 array-set-from-out c = search needs
@@ -30,7 +45,7 @@ loop-less : tie.Need-loop-less Inv-loop μ-loop
 loop-less c = search needs
 
 loop-again : tie.Need-loop-again Inv-loop μ-loop
-loop-again c = (search needs, turn _ _ _ _ _ (search needs) (c .before .before .loop .inv .1) (c .verdict-at .ensures))
+loop-again c = (search needs, turn _ _ _ _ _ (search needs) (c .before .before .before .before .loop .inv .1) (c .verdict-on .ensures))
 
 returns : tie.Need-returns Inv-loop μ-loop
 unfolding teamVerdicts
@@ -43,7 +58,11 @@ team-verdicts-spec =
     Inv-loop
     μ-loop
     loop-holds
-    verdict-at-requires
+    mul-player
+    array-copy-out-player
+    mul-slot
+    array-copy-out-slot
+    verdict-on-requires
     array-set-from-out
     add-i
     loop-less

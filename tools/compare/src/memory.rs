@@ -1,0 +1,64 @@
+//! The command `memory`: calls of the C entries for valgrind's memcheck. Every slice is an allocation of exactly its length, so that an access beside it is seen, and
+//! what is lent for an answer is not initialised, so that a decision by its old content is seen.
+
+use crate::generate::{self, CLASSES};
+use crate::random::Random;
+use crate::situation::{Situation, WORDS};
+use crate::{exact_build, library, refusals};
+
+/// The number and the text that the exact build gives.
+fn expected(s: &Situation) -> (i64, String) {
+    if let Some(n) = refusals::refusal(s) {
+        return (-n, String::new());
+    }
+    let text = exact_build::oracle::decide(s).sheet();
+    (text.len() as i64, text)
+}
+
+/// Calls the entry with `room` fresh bytes. Says whether it gives the number and, where it writes, the text.
+fn call(words: &[u32], s: &Situation, room: usize, number: i64, text: &str) -> bool {
+    let words: Box<[u32]> = words.into();
+    let (xs, ys): (Box<[f32]>, Box<[f32]>) = (s.xs.as_slice().into(), s.ys.as_slice().into());
+    let mut lent: Vec<u8> = Vec::with_capacity(room);
+    let answer = library::sheet_fresh(&words, &xs, &ys, &mut lent, room);
+    answer == number && (number < 0 || lent == text.as_bytes())
+}
+
+fn sheets(s: &Situation, random: &mut Random) -> bool {
+    let (number, text) = expected(s);
+    let words = s.to_words(None);
+    let room = text.len();
+    let spare = random.within(1, 500) as usize;
+    let too_few = if number < 0 { number } else { -7 };
+    call(&words, s, room + spare, number, &text)
+        && call(&words, s, room, number, &text)
+        && call(&words, s, room.saturating_sub(1), too_few, "")
+        && call(&words[..random.within(0, WORDS as i64 - 1) as usize], s, room, -100, "")
+}
+
+/// The candidates' entry with exact room and one place too few, and the leaves.
+fn others(random: &mut Random) -> bool {
+    let mut draw = |low, high| random.within(low, high) as f32 / 64.0;
+    let (start, min, max, step) = (draw(-4096, 4096), draw(-4096, 0), draw(0, 4096), draw(1, 256));
+    let list = exact_build::oracle::candidates(start, min, max, step);
+    let (x, y) = (f32::from_bits(random.u32()), f32::from_bits(random.u32()));
+    library::hypot(x, y);
+    library::normalize_angle(x);
+    library::rem_euclid(x, y);
+    let mut exact = Vec::with_capacity(list.len());
+    let mut few = Vec::with_capacity(list.len() - 1);
+    library::candidates_fresh(start, min, max, step, &mut exact, list.len()) == list.len() as i64
+        && exact == list
+        && library::candidates_fresh(start, min, max, step, &mut few, list.len() - 1) == -6
+}
+
+pub fn run(count: u64, seed: u64) -> bool {
+    let mut random = Random::new(seed);
+    let mut differences = 0u64;
+    for turn in 0..count {
+        let s = generate::situation(&mut random, CLASSES[turn as usize % CLASSES.len()]);
+        differences += u64::from(!sheets(&s, &mut random)) + u64::from(!others(&mut random));
+    }
+    println!("memory: {count} situations, four calls of the sheet and two of the candidates for each, {differences} differences");
+    differences == 0
+}

@@ -1,0 +1,58 @@
+//! The command `stack`: how many bytes of stack a call of the sheet's entry takes. The call runs on a stack of its own that was filled with a pattern before; what is
+//! no longer the pattern was used. A use that happens to write the pattern at the far end would not be seen.
+
+use crate::generate::{self, CLASSES};
+use crate::library;
+use crate::random::Random;
+use std::arch::asm;
+
+const SIZE: usize = 1 << 20;
+const PATTERN: u8 = 0xa7;
+
+struct Call<'a> {
+    words: &'a [u32],
+    xs: &'a [f32],
+    ys: &'a [f32],
+    sheet: &'a mut [u8],
+    answer: i64,
+}
+
+extern "C" fn run_call(call: *mut Call) {
+    // SAFETY: `on_stack` hands over a call that it has alone.
+    let call = unsafe { &mut *call };
+    call.answer = library::sheet(call.words, call.xs, call.ys, call.sheet);
+}
+
+extern "C" fn run_nothing(_: *mut Call) {}
+
+/// Runs the function on the other stack and says how many of its bytes were used.
+fn on_stack(stack: &mut [u8], function: extern "C" fn(*mut Call), call: &mut Call) -> usize {
+    stack.fill(PATTERN);
+    let top = (stack.as_mut_ptr() as usize + stack.len()) & !63;
+    // SAFETY: the stack pointer is changed for the call alone, to memory that nothing else uses, aligned as the C convention asks; the old one is kept in a register
+    // that the called function keeps.
+    unsafe {
+        asm!("mov r12, rsp", "mov rsp, {top}", "call {function}", "mov rsp, r12",
+            top = in(reg) top, function = in(reg) function, in("rdi") call, out("r12") _, clobber_abi("C"));
+    }
+    let kept = stack.iter().position(|&byte| byte != PATTERN).unwrap_or(stack.len());
+    top - (stack.as_ptr() as usize + kept)
+}
+
+pub fn run(count: u64, seed: u64) -> bool {
+    let mut random = Random::new(seed);
+    let mut stack = vec![0; SIZE];
+    let mut sheet = vec![0; 7470];
+    let mut most = 0;
+    let mut least = usize::MAX;
+    for turn in 0..count {
+        let s = generate::situation(&mut random, CLASSES[turn as usize % CLASSES.len()]);
+        let words = s.to_words(None);
+        let mut call = Call { words: &words, xs: &s.xs, ys: &s.ys, sheet: &mut sheet, answer: 0 };
+        let nothing = on_stack(&mut stack, run_nothing, &mut call);
+        let used = on_stack(&mut stack, run_call, &mut call) - nothing;
+        (most, least) = (most.max(used), least.min(used));
+    }
+    println!("stack: {count} situations, from {least} to {most} bytes a call");
+    most < SIZE
+}
