@@ -8,7 +8,8 @@ use Rattle.lists.proofs.Table.{table-same}
 use Rattle.lists.proofs.Gather.{flat-same}
 use Rattle.lists.specs.Gather.{onlyIf}
 use Rattle.game.specs.Game.{isUnpenalized, isPresent, isPlaying}
-use Rattle.game.specs.Players.{playerAt, marginsAt, teamOf, listed}
+use Rattle.game.specs.Players.{playerAt, marginsAt, teamOf, numberAt}
+use Rattle.game.proofs.Listing.{numbers-same}
 use Rattle.game.specs.declared.Ball.{Ball}
 use Rattle.game.specs.declared.FieldDimensions.{FieldDimensions}
 use Rattle.game.specs.declared.Game.{Game}
@@ -38,11 +39,11 @@ use Rattle.selection.specs.Kicker.{determineKickingPlayer}
 use Rattle.selection.proofs.Counting.{count-same}
 use Rattle.selection.proofs.ExcessLaws.{excess-same}
 use Rattle.selection.proofs.KickerLaws.{turnedSeen, kicker-turned}
-use Rattle.motion.specs.Motion.{numberAt, movedPlayers, referencesAfter}
+use Rattle.motion.specs.Motion.{movedPlayers, referencesAfter}
 use Rattle.motion.specs.Turned.{changedElement}
 use Rattle.motion.specs.declared.PlayerReference.{PlayerReference}
 use Rattle.motion.proofs.Turned.{moved-players-turned, references-turned}
-use Rattle.decision.specs.Decision.{verdictOn, verdictAt, teamVerdicts, teamExcess, isExcessAsked, emptyList, leavingPlayers, leavingAt, teamMargins, sideMargins, teamDecision, sideDecision, kickerNumbered, sideKicker, kickerOf, kickerIfAny, kickingPlayer}
+use Rattle.decision.specs.Decision.{verdictOn, verdictAt, teamVerdicts, teamExcess, isExcessAsked, emptyList, isLeaving, leavingPlayers, teamMargins, sideMargins, teamDecision, sideDecision, kickerNumbered, sideKicker, kickerOf, kickerIfAny, kickingPlayer}
 use Rattle.decision.specs.HalfTurn.{turned, SameReference, SameReferences, SameSide}
 use Rattle.decision.specs.declared.call.SideDecision.{SideDecision}
 use Rattle.decision.specs.declared.judges.PlayerVerdict.{PlayerVerdict}
@@ -86,7 +87,9 @@ excess-turned g t m =
 -- ---- leaving
 leaving-turned : (t : Team) (f : FieldDimensions) → leavingPlayers (turnedTeam t) f ≡ leavingPlayers t f
 unfolding leavingPlayers
-leaving-turned t f = ap listed (flat-same 20 (leavingAt (turnedTeam t) f) (leavingAt t f) (λ i h. ap (λ (b : Bool). onlyIf b (numberAt i)) (ap (λ (q : Player). isLeavingTheField q f (q .allowance)) (at-turned t i) ∙ leaving-changed true true (playerAt t i) f (playerAt t i .allowance))))
+leaving-turned t f =
+    numbers-same (λ i. isLeaving (playerAt (turnedTeam t) i) f) (λ i. isLeaving (playerAt t i) f)
+    (λ i h. ap (λ (q : Player). isLeaving q f) (at-turned t i) ∙ leaving-changed true true (playerAt t i) f (playerAt t i .allowance))
 
 -- ---- references
 reference-same : (r : ReferencePose) → SameReference r (changedReference true true r)

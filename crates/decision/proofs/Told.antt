@@ -7,7 +7,7 @@ use borrow.Author.Tests.{eq-eqb, ne-eqb}
 use lib.Dec.{eqb}
 use lib.Ieee.{Float}
 use Rattle.game.specs.Game.{isPlaying}
-use Rattle.game.specs.Players.{playerAt, marginsAt}
+use Rattle.game.specs.Players.{numberAt}
 use Rattle.game.specs.declared.Ball.{Ball}
 use Rattle.game.specs.declared.FieldDimensions.{FieldDimensions}
 use Rattle.game.specs.declared.Game.{Game}
@@ -24,7 +24,7 @@ use Rattle.positioning.specs.Positioning.{isIllegallyPositioned}
 use Rattle.positioning.specs.declared.Positioning.{Positioning}
 use Rattle.selection.specs.Excess.{goalAreaExcess}
 use Rattle.selection.specs.Kicker.{determineKickingPlayer}
-use Rattle.motion.specs.Motion.{numberAt, movedPlayers, referencesAfter}
+use Rattle.motion.specs.Motion.{movedPlayers, referencesAfter}
 use Rattle.ball.specs.declared.BallJudgment.{BallJudgment}
 use Rattle.motion.specs.declared.PlayerReference.{PlayerReference}
 use Rattle.places.specs.declared.Placement.{Placement}
@@ -38,13 +38,9 @@ use Rattle.decision.specs.declared.judges.KickingPlayer.{KickingPlayer}
 
 -- ---- a verdict
 module _ (g : Game) (f : FieldDimensions) (b : Ball) (side : Side) (keeper : MaybeNumber) (p : Player) (margins : MaybeMargins) (i : ℕ) where
-  verdict : ℕ → PlayerVerdict
-  verdict n = record { verdict = isIllegallyPositioned g f b side keeper n p margins }
-
-  pub verdict-told : (n : ℕ) (v : Positioning) → n ≡ numberAt i → v ≡ isIllegallyPositioned g f b side keeper n p margins
-      → record { verdict = v } ≡ verdictOn g f b side keeper p margins i
-  unfolding verdict verdictOn
-  verdict-told n v en ev = ap (λ (w : Positioning). record { verdict = w }) ev ∙ ap verdict en
+  pub verdict-told : (v : Positioning) → v ≡ isIllegallyPositioned g f b side keeper (numberAt i) p margins → record { verdict = v } ≡ verdictOn g f b side keeper p margins i
+  unfolding verdictOn
+  verdict-told v e = ap (λ (w : Positioning). record { verdict = w }) e
 
 -- ---- an excess list, asked or not
 module _ (g : Game) (t : Team) (margins : List PlayerMargins) (asked : Bool) where

@@ -6,10 +6,9 @@ use Prim.Native.Nat.{ℕ}
 use lib.Dec.{eqb}
 use lib.ListN.{replicate}
 use lib.Ieee.{Float}
-use Rattle.lists.specs.Gather.{flatTo, onlyIf}
 use Rattle.lists.specs.Table.{table}
 use Rattle.game.specs.Game.{isShootout, isSet, isPlaying}
-use Rattle.game.specs.Players.{playerAt, marginsAt, teamOf, listed}
+use Rattle.game.specs.Players.{playerAt, marginsAt, teamOf, listed, numberAt, numbersOf}
 use Rattle.game.specs.declared.Ball.{Ball}
 use Rattle.game.specs.declared.FieldDimensions.{FieldDimensions}
 use Rattle.game.specs.declared.Game.{Game}
@@ -34,7 +33,7 @@ use Rattle.positioning.specs.declared.Positioning.the-variants.{Legal}
 use Rattle.selection.specs.Counts.{playersOnField}
 use Rattle.selection.specs.Excess.{goalAreaExcess}
 use Rattle.selection.specs.Kicker.{determineKickingPlayer}
-use Rattle.motion.specs.Motion.{numberAt, movedPlayers, referencesAfter}
+use Rattle.motion.specs.Motion.{movedPlayers, referencesAfter}
 use Rattle.ball.specs.Ball.{ballJudgment}
 use Rattle.places.specs.Places.{ballAtRestart, ballInSet, penaltyShotPlace, penaltyGoalkeeperPlace, playerNumbered}
 use Rattle.ball.specs.declared.BallJudgment.{BallJudgment}
@@ -106,13 +105,9 @@ kickingPlayer g home away f homeMargins awayMargins = kickerIfAny (g .«kicking_
 abbrev pub isLeaving : Player → FieldDimensions → Bool
 isLeaving p f = isLeavingTheField p f (p .allowance)
 
--- its number, if it does
-abbrev pub leavingAt : Team → FieldDimensions → ℕ → List ℕ
-leavingAt t f i = onlyIf (isLeaving (playerAt t i) f) (numberAt i)
-
 -- the numbers of those of a team's players that leave the field, ascending
 unfoldable pub leavingPlayers : Team → FieldDimensions → PlayerList
-leavingPlayers t f = listed (flatTo 20 (leavingAt t f))
+leavingPlayers t f = numbersOf (λ i. isLeaving (playerAt t i) f)
 
 -- ---- the ball judgment, or none
 unfoldable pub ballCalled : Situation → BallJudgment
@@ -207,3 +202,8 @@ emptyDecision = record { home = emptySide; away = emptySide; kicker = NoKicker; 
 unfoldable pub answerOf : Situation → List Float → List Float → Answer
 answerOf s xs ys =
     record { refusal = refusalOf s xs ys; decision = cond (eqb (refusalOf s xs ys) 0) (decisionOf s xs ys) emptyDecision }
+
+-- ---- of the private functions
+-- which players leave the field
+abbrev pub leavingFlags : Team → FieldDimensions → List Bool
+leavingFlags t f = table 20 (λ i. isLeaving (playerAt t i) f)

@@ -55,8 +55,9 @@ fn team_decision(
     let verdicts = super::judges::team_verdicts(game, field, ball, side, team, margins);
     let excess = super::judges::team_excess(game, team, margins);
     let leaving = super::judges::leaving_players(team, field);
-    let moved = autoreferee::moved_players(team);
-    let references = autoreferee::references_after(team);
+    let motion = autoreferee::check_motion(team);
+    let moved = motion.moved;
+    let references = motion.references;
     SideDecision {
         verdicts,
         excess,

@@ -1,7 +1,6 @@
 // What the judges and the places are asked of a situation, item by item.
 ghost use mathlib.Core.Path.{_≡_};
 ghost use Prim.Native.Nat.{_<_};
-ghost use Rattle.motion.specs.Motion as Motion;
 ghost use Rattle.decision.specs.Decision as Spec;
 use autoreferee::BallJudgment;
 use autoreferee::Placement;
@@ -25,14 +24,6 @@ pub struct PlayerVerdict {
     pub verdict: Positioning,
 }
 
-// The number of the player at a place.
-fn number_at(i: usize) -> u8
-    requires { ⌜ i < 20 ⌝ }
-    ensures { λ r. ⌜ r ≡ Motion.numberAt i ⌝ }
-{
-    (i + 1) as u8
-}
-
 // The verdict on the player at a place.
 fn verdict_on(
     game: Game,
@@ -47,7 +38,7 @@ fn verdict_on(
     requires { ⌜ i < 20 ⌝ }
     ensures { λ r. ⌜ r ≡ Spec.verdictOn game field ball side goalkeeper player known i ⌝ }
 {
-    let number = number_at(i);
+    let number = (i + 1) as u8;
     let verdict = positioning::is_illegally_positioned(
         game,
         field,
@@ -88,23 +79,6 @@ pub fn team_verdicts(
     out
 }
 
-// The list with one more number at its end, or unchanged.
-fn append_if(wanted: bool, list: PlayerList, number: u8) -> PlayerList
-    requires { ⌜ list .count < 20 ⌝ }
-    ensures { λ r. ⌜ r ≡ Motion.appendIf wanted list number ⌝ }
-{
-    if wanted {
-        let n = list.count;
-        let mut numbers = list.numbers;
-        numbers[n] = number;
-        return PlayerList {
-            count: n + 1,
-            numbers,
-        };
-    }
-    list
-}
-
 // Whether a player leaves the field, by its own allowance.
 fn is_leaving(player: Player, field: FieldDimensions) -> bool
     ensures { λ r. ⌜ r ≡ Spec.isLeaving player field ⌝ }
@@ -112,21 +86,27 @@ fn is_leaving(player: Player, field: FieldDimensions) -> bool
     geometry::is_leaving_the_field(player, field, player.allowance)
 }
 
+// Which of a team's players leave the field.
+fn leaving_flags(team: Team, field: FieldDimensions) -> [bool; 20]
+    ensures { λ r. ⌜ r ≡ Spec.leavingFlags team field ⌝ }
+{
+    let players = team.players;
+    let mut out = [false; 20];
+    let mut i: usize = 0;
+    while i < 20 {
+        let player = players[i];
+        out[i] = is_leaving(player, field);
+        i += 1;
+    }
+    out
+}
+
 // The numbers of a team's players that leave the field, ascending.
 pub fn leaving_players(team: Team, field: FieldDimensions) -> PlayerList
     ensures { λ r. ⌜ r ≡ Spec.leavingPlayers team field ⌝ }
 {
-    let players = team.players;
-    let numbers = [0u8; 20];
-    let mut list = PlayerList { count: 0, numbers };
-    let mut i: usize = 0;
-    while i < 20 {
-        let player = players[i];
-        let leaving = is_leaving(player, field);
-        list = append_if(leaving, list, number_at(i));
-        i += 1;
-    }
-    list
+    let flags = leaving_flags(team, field);
+    game::numbers_of(flags)
 }
 
 // A list of no player.

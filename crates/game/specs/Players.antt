@@ -1,7 +1,7 @@
 -- The players of a side by their place, which is the number less one. Definitions only.
-use mathlib.Core.Bool.{false}
+use mathlib.Core.Bool.{Bool, false}
 use mathlib.Core.List.{List}
-use Prim.Native.Nat.{ℕ}
+use Prim.Native.Nat.{ℕ, _+_}
 use lib.ListN.{getD, length, replicate}
 use lib.Ieee.{nan}
 use Rattle.game.specs.declared.Side.{Side}
@@ -16,7 +16,8 @@ use Rattle.game.specs.declared.MaybeMargins.the-variants.{NoMargins}
 use Rattle.game.specs.declared.PlayerMargins.{PlayerMargins}
 use Rattle.game.specs.declared.PlayerList.{PlayerList}
 use Rattle.game.specs.declared.Situation.{Situation}
-use Rattle.lists.specs.Put.{fronted}
+use Rattle.lists.specs.Gather.{flatTo, onlyIf}
+use Rattle.lists.specs.Put.{fronted, countIf, putIf}
 
 -- the player past the last one
 abbrev pub nobody : Player
@@ -36,3 +37,16 @@ teamOf s Away = s .away
 unfoldable pub listed : List ℕ → PlayerList
 unfolding fronted
 listed l = record { count = length l; numbers = fronted l (replicate 20 0) }
+
+-- the number of the player at a place
+abbrev pub numberAt : ℕ → ℕ
+numberAt i = i + 1
+
+-- the numbers of the players at the places with a property, ascending
+unfoldable pub numbersOf : (ℕ → Bool) → PlayerList
+numbersOf b = listed (flatTo 20 (λ i. onlyIf (b i) (numberAt i)))
+
+-- ---- of the private functions
+-- a counted array with one more number, or unchanged
+abbrev pub appendIf : Bool → PlayerList → ℕ → PlayerList
+appendIf wanted l n = record { count = countIf wanted (l .count); numbers = putIf wanted (l .numbers) (l .count) n }

@@ -1,6 +1,9 @@
 // The used types of types.rs and lib.rs, and the situation that a decision is asked of. Everything goes by value.
 // Each "or none" is an enum whose empty case stands first, so that it is the value past the end of an array.
 ghost use mathlib.Core.Path.{_≡_};
+ghost use mathlib.Core.Bool.{false};
+ghost use Prim.Native.Nat.{_<_};
+ghost use lib.ListN.{getD};
 ghost use Rattle.game.specs.Game as Spec;
 ghost use Rattle.game.specs.Players as Players;
 
@@ -372,4 +375,36 @@ pub fn team_of(s: Situation, side: Side) -> Team
         Side::Home => s.home,
         Side::Away => s.away,
     }
+}
+
+// The list with one more number at its end, or unchanged.
+fn append_if(wanted: bool, list: PlayerList, number: u8) -> PlayerList
+    requires { ⌜ list .count < 20 ⌝ }
+    ensures { λ r. ⌜ r ≡ Players.appendIf wanted list number ⌝ }
+{
+    if wanted {
+        let n = list.count;
+        let mut numbers = list.numbers;
+        numbers[n] = number;
+        return PlayerList {
+            count: n + 1,
+            numbers,
+        };
+    }
+    list
+}
+
+// The numbers of the players whose flag is set, ascending.
+pub fn numbers_of(flags: [bool; 20]) -> PlayerList
+    ensures { λ r. ⌜ r ≡ Players.numbersOf (λ i. getD flags i false) ⌝ }
+{
+    let numbers = [0u8; 20];
+    let mut list = PlayerList { count: 0, numbers };
+    let mut i: usize = 0;
+    while i < 20 {
+        let number = (i + 1) as u8;
+        list = append_if(flags[i], list, number);
+        i += 1;
+    }
+    list
 }

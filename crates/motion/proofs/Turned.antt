@@ -3,12 +3,11 @@ use mathlib.Core.Path.{_≡_, refl, ap, ap₂, _∙_}
 use mathlib.Core.Bool.{Bool, true, false, _&&_}
 use mathlib.Core.List.{List, _∷_, map}
 use Prim.Native.Nat.{ℕ, zero, suc}
-use Rattle.lists.specs.Gather.{onlyIf}
 use Rattle.lists.specs.Table.{table}
-use Rattle.lists.proofs.Gather.{flat-same}
 use Rattle.lists.proofs.Table.{table-same}
 use Rattle.game.specs.Game.{isUnpenalized}
-use Rattle.game.specs.Players.{playerAt, listed}
+use Rattle.game.specs.Players.{playerAt}
+use Rattle.game.proofs.Listing.{numbers-same}
 use Rattle.game.specs.declared.Player.{Player}
 use Rattle.game.specs.declared.PlayerPose.{PlayerPose}
 use Rattle.game.specs.declared.ReferencePose.{ReferencePose}
@@ -18,7 +17,7 @@ use Rattle.game.specs.declared.SeenPose.the-variants.{Absent, Present}
 use Rattle.game.specs.declared.Team.{Team}
 use Rattle.geometry.specs.Turned.{changedPose, changedSeen, changedReference, changedPlayer, changedTeam, turnedPlayer, turnedTeam}
 use Rattle.positioning.proofs.Turned.{distance-changed, player-at-changed}
-use Rattle.motion.specs.Motion.{isAway, isSeenAway, hasMoved, numberAt, movedAt, movedPlayers, unlessMoved, referenceAfter, referencesAfter}
+use Rattle.motion.specs.Motion.{isAway, isSeenAway, hasMoved, movedPlayers, unlessMoved, referenceAfter, referencesAfter}
 use Rattle.motion.specs.Turned.{changedElement}
 
 away-changed : (a b : Bool) (p q : PlayerPose) → isAway (changedPose a b p) (changedPose a b q) ≡ isAway p q
@@ -39,7 +38,7 @@ moved-at a b t i = ap hasMoved (player-at-changed a b t i) ∙ moved-changed a b
 pub moved-players-changed : (a b : Bool) (t : Team) → movedPlayers (changedTeam a b t) ≡ movedPlayers t
 unfolding movedPlayers
 moved-players-changed a b t =
-    ap listed (flat-same 20 (movedAt (changedTeam a b t)) (movedAt t) (λ i h. ap (λ (m : Bool). onlyIf m (numberAt i)) (moved-at a b t i)))
+    numbers-same (λ i. hasMoved (playerAt (changedTeam a b t) i)) (λ i. hasMoved (playerAt t i)) (λ i h. moved-at a b t i)
 
 -- a table of changed elements
 map-table : {A B : Type 0} (g : A → B) (n : ℕ) (f : ℕ → A) → table n (λ k. g (f k)) ≡ map g (table n f)

@@ -1,16 +1,14 @@
 -- Who has moved from its reference pose: binary32, each operation rounded once. Definitions only.
 use mathlib.Core.Bool.{Bool, true, false, _&&_, _||_}
 use mathlib.Core.List.{List}
-use Prim.Native.Nat.{ℕ, _+_}
+use lib.ListN.{getD}
 use lib.Ieee.{Float, binary32, lt, ofBits}
-use Rattle.lists.specs.Gather.{flatTo, onlyIf}
-use Rattle.lists.specs.Put.{countIf, putIf}
 use Rattle.lists.specs.Table.{table}
 use Rattle.floats.specs.Arithmetic.{_-₃₂_}
 use Rattle.floats.specs.Leaves.{abs}
 use Rattle.floats.specs.Hypot.{hypot}
 use Rattle.game.specs.Game.{isUnpenalized}
-use Rattle.game.specs.Players.{playerAt, listed}
+use Rattle.game.specs.Players.{playerAt, numbersOf}
 use Rattle.game.specs.declared.Player.{Player}
 use Rattle.game.specs.declared.PlayerList.{PlayerList}
 use Rattle.game.specs.declared.PlayerPose.{PlayerPose}
@@ -21,6 +19,7 @@ use Rattle.game.specs.declared.SeenPose.the-variants.{Absent, Present}
 use Rattle.game.specs.declared.Team.{Team}
 use Rattle.geometry.specs.Geometry.{normalizeAngle}
 use Rattle.motion.specs.declared.PlayerReference.{PlayerReference}
+use Rattle.motion.specs.declared.Motion.{Motion}
 
 -- 0.1, the distance a player must move
 abbrev pub motionDistance : Float
@@ -52,31 +51,35 @@ isSeenAway (Present p) (Reference q) = isAway p q
 abbrev pub hasMoved : Player → Bool
 hasMoved player = isUnpenalized (player .penalty) && isSeenAway (player .pose) (player .reference)
 
--- the number of the player at a place
-abbrev pub numberAt : ℕ → ℕ
-numberAt i = i + 1
-
--- the number of the player at the place i, if it has moved
-abbrev pub movedAt : Team → ℕ → List ℕ
-movedAt t i = onlyIf (hasMoved (playerAt t i)) (numberAt i)
-
 -- the numbers of those of a team's players that have moved, ascending
 unfoldable pub movedPlayers : Team → PlayerList
-movedPlayers t = listed (flatTo 20 (movedAt t))
-
--- a counted array with one more number, or unchanged
-abbrev pub appendIf : Bool → PlayerList → ℕ → PlayerList
-appendIf wanted l n = record { count = countIf wanted (l .count); numbers = putIf wanted (l .numbers) (l .count) n }
+movedPlayers t = numbersOf (λ i. hasMoved (playerAt t i))
 
 -- no reference pose once it has moved
 abbrev pub unlessMoved : Bool → ReferencePose → ReferencePose
 unlessMoved true r = NoReference
 unlessMoved false r = r
 
--- the reference pose of a player after the check
+-- the reference pose of a player after the check, given whether it has moved
+abbrev pub referenceUnless : Bool → Player → PlayerReference
+referenceUnless moved p = record { reference = unlessMoved moved (p .reference) }
+
 abbrev pub referenceAfter : Player → PlayerReference
-referenceAfter p = record { reference = unlessMoved (hasMoved p) (p .reference) }
+referenceAfter p = referenceUnless (hasMoved p) p
 
 -- the reference poses after the check, by the players' places
 unfoldable pub referencesAfter : Team → List PlayerReference
 referencesAfter t = table 20 (λ i. referenceAfter (playerAt t i))
+
+-- what the check gives for a team
+abbrev pub checkMotion : Team → Motion
+checkMotion t = record { moved = movedPlayers t; references = referencesAfter t }
+
+-- ---- of the private functions
+-- which players have moved
+abbrev pub movedFlags : Team → List Bool
+movedFlags t = table 20 (λ i. hasMoved (playerAt t i))
+
+-- the reference poses after the check, given which players have moved
+abbrev pub referencesUnless : List Bool → Team → List PlayerReference
+referencesUnless flags t = table 20 (λ i. referenceUnless (getD flags i false) (playerAt t i))

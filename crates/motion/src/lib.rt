@@ -1,6 +1,5 @@
 // Who has moved from the pose that motion is measured from, while nobody may move.
 ghost use mathlib.Core.Path.{_≡_};
-ghost use Prim.Native.Nat.{_<_};
 ghost use Rattle.motion.specs.Motion as Spec;
 use game::Player;
 use game::PlayerList;
@@ -20,8 +19,11 @@ fn is_away(pose: PlayerPose, reference: PlayerPose) -> bool
     ensures { λ r. ⌜ r ≡ Spec.isAway pose reference ⌝ }
 {
     let distance = floats::hypot(pose.x - reference.x, pose.y - reference.y);
+    if distance > MOTION_DISTANCE {
+        return true;
+    }
     let angle = floats::abs(rules::normalize_angle(pose.theta - reference.theta));
-    (distance > MOTION_DISTANCE) | (angle > MOTION_ANGLE)
+    angle > MOTION_ANGLE
 }
 
 // The same where both poses are there.
@@ -49,46 +51,19 @@ pub fn has_moved(player: Player) -> bool
     unpenalized & away
 }
 
-// The list with one more number at its end, or unchanged.
-fn append_if(wanted: bool, list: PlayerList, number: u8) -> PlayerList
-    requires { ⌜ list .count < 20 ⌝ }
-    ensures { λ r. ⌜ r ≡ Spec.appendIf wanted list number ⌝ }
-{
-    if wanted {
-        let n = list.count;
-        let mut numbers = list.numbers;
-        numbers[n] = number;
-        return PlayerList {
-            count: n + 1,
-            numbers,
-        };
-    }
-    list
-}
-
-// The number of the player at a place.
-fn number_at(i: usize) -> u8
-    requires { ⌜ i < 20 ⌝ }
-    ensures { λ r. ⌜ r ≡ Spec.numberAt i ⌝ }
-{
-    (i + 1) as u8
-}
-
-// The numbers of a team's players that have moved, ascending.
-pub fn moved_players(team: Team) -> PlayerList
-    ensures { λ r. ⌜ r ≡ Spec.movedPlayers team ⌝ }
+// Which of a team's players have moved.
+fn moved_flags(team: Team) -> [bool; 20]
+    ensures { λ r. ⌜ r ≡ Spec.movedFlags team ⌝ }
 {
     let players = team.players;
-    let numbers = [0u8; 20];
-    let mut list = PlayerList { count: 0, numbers };
+    let mut out = [false; 20];
     let mut i: usize = 0;
     while i < 20 {
         let player = players[i];
-        let moved = has_moved(player);
-        list = append_if(moved, list, number_at(i));
+        out[i] = has_moved(player);
         i += 1;
     }
-    list
+    out
 }
 
 // An element of a side's list of reference poses.
@@ -96,11 +71,16 @@ pub struct PlayerReference {
     pub reference: ReferencePose,
 }
 
+// What motion gives for a team: the numbers of the players that have moved, ascending, and the reference poses after that.
+pub struct Motion {
+    pub moved: PlayerList,
+    pub references: [PlayerReference; 20],
+}
+
 // The reference pose of one player after it was checked: none once it has moved.
-fn reference_after(player: Player) -> PlayerReference
-    ensures { λ r. ⌜ r ≡ Spec.referenceAfter player ⌝ }
+fn reference_after(player: Player, moved: bool) -> PlayerReference
+    ensures { λ r. ⌜ r ≡ Spec.referenceUnless moved player ⌝ }
 {
-    let moved = has_moved(player);
     if moved {
         let reference = ReferencePose::NoReference;
         return PlayerReference { reference };
@@ -110,8 +90,8 @@ fn reference_after(player: Player) -> PlayerReference
 }
 
 // The reference poses of a team's players after they were checked.
-pub fn references_after(team: Team) -> [PlayerReference; 20]
-    ensures { λ r. ⌜ r ≡ Spec.referencesAfter team ⌝ }
+fn references_after(team: Team, moved: [bool; 20]) -> [PlayerReference; 20]
+    ensures { λ r. ⌜ r ≡ Spec.referencesUnless moved team ⌝ }
 {
     let players = team.players;
     let none = ReferencePose::NoReference;
@@ -120,8 +100,18 @@ pub fn references_after(team: Team) -> [PlayerReference; 20]
     let mut i: usize = 0;
     while i < 20 {
         let player = players[i];
-        out[i] = reference_after(player);
+        out[i] = reference_after(player, moved[i]);
         i += 1;
     }
     out
+}
+
+// Who of a team has moved, and the reference poses after that, as check_motion.
+pub fn check_motion(team: Team) -> Motion
+    ensures { λ r. ⌜ r ≡ Spec.checkMotion team ⌝ }
+{
+    let flags = moved_flags(team);
+    let moved = game::numbers_of(flags);
+    let references = references_after(team, flags);
+    Motion { moved, references }
 }

@@ -2,14 +2,11 @@ use borrow.Author.Needs.{needs}
 use Rattle.motion.proofs.reference_after.Statement.{statement}
 use Rattle.motion.proofs.reference_after.Tie as tie
 
-has-moved-requires : tie.Need-has-moved-requires
-has-moved-requires c κs = search needs
-
 returns : tie.Need-returns
-returns c = simp (← c .before .has-moved .ensures, c .if1 .taken)
+returns c = simp (c .if1 .taken)
 
 returns-2 : tie.Need-returns-2
-returns-2 c = simp (← c .before .has-moved .ensures, c .if1 .left)
+returns-2 c = simp (c .if1 .left)
 
 pub reference-after-spec : {M : Type 1} → statement M
-reference-after-spec = tie.close (tie.spec has-moved-requires returns returns-2)
+reference-after-spec = tie.close (tie.spec returns returns-2)

@@ -1,4 +1,6 @@
 use Rattle.decision.proofs.Told.{side-told}
+use mathlib.Core.Path.{ap}
+use Rattle.motion.specs.declared.Motion.{Motion}
 use borrow.Author.Needs.{needs}
 use Rattle.decision.proofs.call.team_decision.Statement.{statement}
 use Rattle.decision.proofs.call.team_decision.Tie as tie
@@ -12,19 +14,16 @@ team-excess-requires c κs = search needs
 leaving-players-requires : tie.Need-leaving-players-requires
 leaving-players-requires c κs = search needs
 
-moved-players-requires : tie.Need-moved-players-requires
-moved-players-requires c κs = search needs
-
-references-after-requires : tie.Need-references-after-requires
-references-after-requires c κs = search needs
+check-motion-requires : tie.Need-check-motion-requires
+check-motion-requires c κs = search needs
 
 returns : tie.Need-returns
 returns c =
-    let moved = c .before in
-    let leaving = moved .before in
+    let motion = c .before .before in
+    let leaving = motion .before in
     let excess = leaving .before in
     let verdicts = excess .before in
-    side-told _ _ _ _ _ _ _ _ _ _ _ (verdicts .team-verdicts .ensures) (excess .team-excess .ensures) (leaving .leaving-players .ensures) (moved .moved-players .ensures) (c .references-after .ensures)
+    side-told _ _ _ _ _ _ _ _ _ _ _ (verdicts .team-verdicts .ensures) (excess .team-excess .ensures) (leaving .leaving-players .ensures) (ap (λ (m : Motion). m .moved) (motion .check-motion .ensures)) (ap (λ (m : Motion). m .references) (motion .check-motion .ensures))
 
 pub team-decision-spec : {M : Type 1} → statement M
 team-decision-spec =
@@ -33,6 +32,5 @@ team-decision-spec =
     team-verdicts-requires
     team-excess-requires
     leaving-players-requires
-    moved-players-requires
-    references-after-requires
+    check-motion-requires
     returns)

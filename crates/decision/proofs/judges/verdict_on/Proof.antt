@@ -3,15 +3,18 @@ use borrow.Author.Needs.{needs}
 use Rattle.decision.proofs.judges.verdict_on.Statement.{statement}
 use Rattle.decision.proofs.judges.verdict_on.Tie as tie
 
-number-at-requires : tie.Need-number-at-requires
-number-at-requires c κs = search needs
+add-number : tie.Need-add-number
+add-number c = search needs
+
+cast-number : tie.Need-cast-number
+cast-number c = search needs
 
 is-illegally-positioned-requires : tie.Need-is-illegally-positioned-requires
 is-illegally-positioned-requires c κs = search needs
 
 returns : tie.Need-returns
-returns c = verdict-told _ _ _ _ _ _ _ _ _ _ (c .before .number-at .ensures) (c .is-illegally-positioned .ensures)
+returns c = verdict-told _ _ _ _ _ _ _ _ _ (c .is-illegally-positioned .ensures)
 
 pub verdict-on-spec : {M : Type 1} → statement M
 verdict-on-spec =
-    tie.close (tie.spec number-at-requires is-illegally-positioned-requires returns)
+    tie.close (tie.spec add-number cast-number is-illegally-positioned-requires returns)

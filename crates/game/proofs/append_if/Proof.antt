@@ -1,6 +1,6 @@
 use borrow.Author.Needs.{needs}
-use Rattle.decision.proofs.judges.append_if.Statement.{statement}
-use Rattle.decision.proofs.judges.append_if.Tie as tie
+use Rattle.game.proofs.append_if.Statement.{statement}
+use Rattle.game.proofs.append_if.Tie as tie
 
 array-write-numbers : tie.Need-array-write-numbers
 array-write-numbers c = search needs

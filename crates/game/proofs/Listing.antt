@@ -1,17 +1,20 @@
--- What a loop that appends numbers to a counted array of 20 keeps: after i turns the array is `listed (flatTo i f)`. Assumes nothing.
+-- Lists of players by their numbers. What a loop that appends numbers to a counted array of 20 keeps: after i turns the array is `listed (flatTo i f)`. Assumes
+-- nothing.
 use mathlib.Core.Path.{_≡_, refl, sym, ap, ap₂, subst, _∙_}
 use mathlib.Core.Bool.{Bool, true, false}
 use mathlib.Core.List.{List}
 use Prim.Native.Nat.{ℕ, zero, suc, _+_, _≤_, _<_}
 use native.Mathlib.Nat.{le-antisymm}
 use native.Mathlib.Omega.{arith}
-use lib.ListN.{length, replicate, length-append}
+use lib.ListN.{length, getD, replicate, length-append}
 use Rattle.lists.specs.Gather.{flatTo, onlyIf}
 use Rattle.lists.specs.Put.{fronted}
+use Rattle.lists.specs.Table.{table}
+use Rattle.lists.proofs.Gather.{flat-same}
 use Rattle.lists.proofs.Put.{put-turn}
-use Rattle.game.specs.Players.{listed}
+use Rattle.lists.proofs.Table.{table-at}
+use Rattle.game.specs.Players.{listed, numberAt, numbersOf, appendIf}
 use Rattle.game.specs.declared.PlayerList.{PlayerList}
-use Rattle.motion.specs.Motion.{appendIf}
 
 -- one element at most
 one-at-most : (b : Bool) (x : ℕ) → length (onlyIf b x) ≤ 1
@@ -47,3 +50,12 @@ module _ (b : ℕ → Bool) (x : ℕ → ℕ) where
   -- the loop's end
   pub listed-done : (i n : ℕ) (l : PlayerList) → i ≤ n → n ≤ i → l ≡ listed (flatTo i (λ k. onlyIf (b k) (x k))) → l ≡ listed (flatTo n (λ k. onlyIf (b k) (x k)))
   listed-done i n l p q e = e ∙ ap (λ (k : ℕ). listed (flatTo k (λ j. onlyIf (b j) (x j)))) (le-antisymm p q)
+
+-- ---- properties that are the same at every place name the same players
+pub numbers-same : (b c : ℕ → Bool) → ((i : ℕ) → i < 20 → b i ≡ c i) → numbersOf b ≡ numbersOf c
+unfolding numbersOf
+numbers-same b c e = ap listed (flat-same 20 (λ i. onlyIf (b i) (numberAt i)) (λ i. onlyIf (c i) (numberAt i)) (λ i h. ap (λ (z : Bool). onlyIf z (numberAt i)) (e i h)))
+
+-- flags that are the table of a property
+pub numbers-flagged : (flags : List Bool) (b : ℕ → Bool) → flags ≡ table 20 b → numbersOf (λ i. getD flags i false) ≡ numbersOf b
+numbers-flagged flags b e = numbers-same (λ i. getD flags i false) b (λ i h. ap (λ (l : List Bool). getD l i false) e ∙ table-at 20 b false i h)
