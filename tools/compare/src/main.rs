@@ -7,6 +7,7 @@ mod entries;
 mod generate;
 mod leaves;
 mod library;
+mod records;
 mod refusals;
 mod situation;
 mod slips;
@@ -44,6 +45,8 @@ compare motion                     tries every distance at which motion could tu
 compare judge                      reads one situation as the program judge does and prints the three sheets
 compare until COUNT SEED           compares until the first difference
 compare slips [COUNT] [SEED]       looks for a situation that shows each slip, COUNT at most
+compare records [SEED]             writes the list that the program replay reads, of the seed (1), and what it covers to standard error
+compare replay                     reads such a list and asks the oracle again
 ";
 
 fn main() {
@@ -64,6 +67,8 @@ fn main() {
         "judge" => compare::judge(),
         "until" => compare::until(number(0, 100_000), number(1, 1)),
         "slips" => compare::try_slips(number(0, 100_000), number(1, 1)),
+        "records" => records::write(number(0, 1)),
+        "replay" => records::replay(),
         _ => usage(),
     };
     if !passed {
