@@ -5,6 +5,7 @@ An edit that the comparison does not catch is printed, to be explained. Nothing 
 edited text stands in a build folder of its own (target/mutants).
 
     python3 mutants.py [SITUATIONS] [FIRST] [LAST]
+    python3 mutants.py LIST [FIRST] [LAST]           asks the edited text again for the answers of a list that `compare records` has written
 """
 
 import os
@@ -20,6 +21,8 @@ BUILD = HERE / "target" / "mutants"
 SITUATIONS = sys.argv[1] if len(sys.argv) > 1 else "20000"
 FIRST = int(sys.argv[2]) if len(sys.argv) > 2 else 0
 LAST = int(sys.argv[3]) if len(sys.argv) > 3 else 10**9
+# Of a list few answers are asked, so that the time of the build counts.
+LEVEL = "1" if SITUATIONS.isdigit() else "0"
 
 # The functions that document 01 names; of `observe` the arms that place the ball.
 JUDGES = [
@@ -38,7 +41,7 @@ EDITS = [
 
 
 def build():
-    environment = dict(os.environ, CARGO_TARGET_DIR=str(BUILD), CARGO_PROFILE_RELEASE_OPT_LEVEL="1", CARGO_INCREMENTAL="1", RUSTFLAGS="--cfg mutants")
+    environment = dict(os.environ, CARGO_TARGET_DIR=str(BUILD), CARGO_PROFILE_RELEASE_OPT_LEVEL=LEVEL, CARGO_INCREMENTAL="1", RUSTFLAGS="--cfg mutants")
     return subprocess.run(
         ["nice", "cargo", "build", "-j1", "--offline", "--release", "-q"], cwd=HERE, env=environment, capture_output=True, text=True
     )
@@ -106,9 +109,10 @@ def main():
                     count["not compiled"] += 1
                     continue
                 try:
+                    words, given = (["until", SITUATIONS, "1"], "") if SITUATIONS.isdigit() else (["replay"], Path(SITUATIONS).read_text())
                     run = subprocess.run(
-                        ["nice", str(BUILD / "release" / "compare"), "until", SITUATIONS, "1"],
-                        capture_output=True, text=True, timeout=60, preexec_fn=limited,
+                        ["nice", str(BUILD / "release" / "compare"), *words],
+                        input=given, capture_output=True, text=True, timeout=60, preexec_fn=limited,
                     )
                     result = "caught" if run.returncode == 1 else "stopped" if run.returncode != 0 else "NOT CAUGHT"
                 except subprocess.TimeoutExpired:

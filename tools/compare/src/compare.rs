@@ -8,12 +8,12 @@ use crate::{cases, entries, exact_build, library, mixed_build, refusals, slip_bu
 use std::collections::{BTreeMap, BTreeSet};
 
 /// What the oracle answers: a refusal, or a decision.
-enum Answer {
+pub enum Answer {
     Refused(i64),
     Decided(Decision),
 }
 
-fn exact(s: &Situation) -> Answer {
+pub fn exact(s: &Situation) -> Answer {
     match refusals::refusal(s) {
         Some(n) => Answer::Refused(n),
         None => Answer::Decided(decide(s)),
@@ -30,7 +30,7 @@ fn decide(s: &Situation) -> Decision {
 }
 
 /// The answer as the number that the entry gives and the text that it writes.
-fn entry(answer: &Answer) -> (i64, String) {
+pub fn entry(answer: &Answer) -> (i64, String) {
     match answer {
         Answer::Refused(n) => (-n, String::new()),
         Answer::Decided(decision) => {
@@ -131,7 +131,7 @@ fn as_changes(s: &Situation) -> String {
     text
 }
 
-fn plain() -> Situation {
+pub fn plain() -> Situation {
     let mut s = Situation::case_a();
     s.players = [[crate::situation::NOBODY; 20]; 2];
     s.ball = [0.0, 0.0, 0.125];
@@ -148,9 +148,30 @@ fn report(s: &Situation, (number, text): &(i64, String), name: &str) {
 
 /// The words, then the number of xs and their patterns, then of ys and theirs.
 pub fn as_numbers(s: &Situation) -> String {
-    let words = s.to_words(None).map(|w| w.to_string()).join(" ");
+    numbers(&s.to_words(None), &s.xs, &s.ys)
+}
+
+pub fn numbers(words: &[u32; WORDS], xs: &[f32], ys: &[f32]) -> String {
+    let words = words.map(|w| w.to_string()).join(" ");
     let list = |l: &[f32]| l.iter().map(|x| format!(" {}", x.to_bits())).collect::<String>();
-    format!("{words} {}{} {}{}", s.xs.len(), list(&s.xs), s.ys.len(), list(&s.ys))
+    format!("{words} {}{} {}{}", xs.len(), list(xs), ys.len(), list(ys))
+}
+
+/// A pattern's place in the order of the floats' values, and the pattern at a place.
+pub fn order(bits: u32) -> i64 {
+    if bits >> 31 == 1 {
+        -i64::from(bits & 0x7fff_ffff) - 1
+    } else {
+        i64::from(bits)
+    }
+}
+
+pub fn back(place: i64) -> u32 {
+    if place < 0 {
+        0x8000_0000 | (-place - 1) as u32
+    } else {
+        place as u32
+    }
 }
 
 /// Makes words 0 or of case A, one after the other, and drops earlier places, as long as the property stays.
@@ -361,9 +382,6 @@ pub fn bisect(random: &mut Random, tally: &mut Tally) {
         }
         Situation::from_words(&words, xs, ys).expect("a float's column has every value")
     };
-    // Patterns in the order of values.
-    let order = |bits: u32| if bits >> 31 == 1 { -i64::from(bits & 0x7fff_ffff) - 1 } else { i64::from(bits) };
-    let back = |key: i64| if key < 0 { 0x8000_0000 | (-key - 1) as u32 } else { key as u32 };
     let a = if i < WORDS { words[i] } else { s.xs.iter().chain(&s.ys).nth(i - WORDS).expect("an earlier place").to_bits() };
     let here = f32::from_bits(a);
     let b = match random.within(0, 3) {
@@ -474,10 +492,8 @@ pub fn until(count: u64, seed: u64) -> bool {
     (0..count).all(|turn| same(turn)) && entries::candidates_until(count / 10, seed)
 }
 
-/// Reads a situation from standard input, as the program judge does, and prints the sheets of both builds and of the port.
-pub fn judge() -> bool {
-    let mut text = String::new();
-    std::io::Read::read_to_string(&mut std::io::stdin(), &mut text).expect("standard input is text");
+/// The situation of a text that the program judge reads without a fault.
+pub fn from_numbers(text: &str) -> Situation {
     let numbers: Vec<u32> = text.split_whitespace().map(|n| n.parse().expect("a number")).collect();
     let list = |at: usize| {
         let length = *numbers.get(at).expect("the length of a list") as usize;
@@ -486,7 +502,14 @@ pub fn judge() -> bool {
     };
     let (next, xs) = list(WORDS);
     let (_, ys) = list(next);
-    let s = Situation::from_words(&numbers[..WORDS], xs, ys).expect("words of a situation");
+    Situation::from_words(&numbers[..WORDS], xs, ys).expect("words of a situation")
+}
+
+/// Reads a situation from standard input, as the program judge does, and prints the sheets of both builds and of the port.
+pub fn judge() -> bool {
+    let mut text = String::new();
+    std::io::Read::read_to_string(&mut std::io::stdin(), &mut text).expect("standard input is text");
+    let s = from_numbers(&text);
     let (number, text) = entry(&exact(&s));
     println!("the exact build answers {number}:\n{text}");
     if refusals::refusal(&s).is_none() {

@@ -2,7 +2,7 @@
 
 use crate::generate::{moved, near_halfway};
 use crate::random::Random;
-use crate::{exact, exact_build, leaves, library, std_build};
+use crate::{exact, exact_build, leaves, library, slip_build, slips, std_build};
 use std::f32::consts::PI;
 
 /// The same value, or two NaNs: which NaN comes out is left open.
@@ -11,14 +11,15 @@ fn alike(x: f32, y: f32) -> bool {
 }
 
 /// Document 01's answer: refusal 5, or the original's list.
-fn candidates(start: f32, min: f32, max: f32, step: f32) -> Option<Vec<f32>> {
+pub fn candidates(start: f32, min: f32, max: f32, step: f32) -> Option<Vec<f32>> {
     let no_bounds = min.is_nan() || max.is_nan() || min > max;
     let beyond = |x: f32| !(-64.0..=64.0).contains(&x);
     let refused = start.is_nan() || beyond(min) || beyond(max) || step.is_nan() || (step > 0.0 && step < 1.0 / 64.0);
     if !no_bounds && refused {
         return None;
     }
-    Some(exact_build::oracle::candidates(start, min, max, step))
+    let oracle = if slips::any() { slip_build::oracle::candidates } else { exact_build::oracle::candidates };
+    Some(oracle(start, min, max, step))
 }
 
 /// Whether the entry gives `number` and `list` with that much room, and keeps the rest.
@@ -56,7 +57,7 @@ const SPECIAL: [f32; 14] = [
     -7.0,
 ];
 
-fn arguments(random: &mut Random) -> [f32; 4] {
+pub fn arguments(random: &mut Random) -> [f32; 4] {
     let around = |random: &mut Random| match random.within(0, 9) {
         0 => random.pick(&SPECIAL),
         1 => f32::from_bits(random.u32()),

@@ -9,6 +9,7 @@ mod generate;
 mod leaves;
 mod library;
 mod memory;
+mod records;
 mod refusals;
 mod situation;
 mod slips;
@@ -50,6 +51,8 @@ compare bench [SEED] [REPEATS]     times the whole call beside the original
 compare memory [COUNT] [SEED]      calls the entries for valgrind
 compare stack [COUNT] [SEED]       measures the stack that a call takes
 compare slips [COUNT] [SEED]       looks for a situation that shows each slip, COUNT at most
+compare records [SEED]             writes the list that the program replay reads, of the seed (1), and what it covers to standard error
+compare replay                     reads such a list and asks the oracle again
 ";
 
 fn main() {
@@ -73,6 +76,8 @@ fn main() {
         "judge" => compare::judge(),
         "until" => compare::until(number(0, 100_000), number(1, 1)),
         "slips" => compare::try_slips(number(0, 100_000), number(1, 1)),
+        "records" => records::write(number(0, 1)),
+        "replay" => records::replay(),
         _ => usage(),
     };
     if !passed {
