@@ -67,40 +67,19 @@ pub fn copysign(x: f32, y: f32) -> f32
     if negative(y) { -a } else { a }
 }
 
+// x where it is less, beside a NaN, and of the zeros where it is -0. Without a branch, since which of the two is less cannot be foreseen.
 pub fn min(x: f32, y: f32) -> f32
     ensures { λ r. ⌜ r ≡ Spec.minimumNumber x y ⌝ }
 {
-    if is_nan(x) {
-        y // the number, where x is a NaN
-    } else if is_nan(y) {
-        x
-    } else if x < y {
-        x
-    } else if y < x {
-        y
-    } else if negative(x) {
-        x // of the zeros -0
-    } else {
-        y
-    }
+    let first = (x < y) | is_nan(y) | (!(y < x) & negative(x));
+    if first { x } else { y }
 }
 
+// min with the signs changed.
 pub fn max(x: f32, y: f32) -> f32
     ensures { λ r. ⌜ r ≡ Spec.maximumNumber x y ⌝ }
 {
-    if is_nan(x) {
-        y // the number too, where x is a NaN
-    } else if is_nan(y) {
-        x
-    } else if y < x {
-        x
-    } else if x < y {
-        y
-    } else if negative(x) {
-        y // of the zeros +0
-    } else {
-        x
-    }
+    -min(-x, -y)
 }
 
 // The Rust's clamp panics at a NaN bound and at lo above hi: here x comes back.

@@ -2,7 +2,7 @@
 -- apart, zeros of unlike signs too: so it commutes and is associative, and gives one of the two operands. maximumNumber is the same with the signs changed. Assumes nothing.
 use mathlib.Core.Path.{_≡_, refl, sym, ap, ap₂, _∙_, subst}
 use mathlib.Core.Logic.{_⊎_, inl, inr}
-use mathlib.Core.Bool.{Bool, true, false, not, cond}
+use mathlib.Core.Bool.{Bool, true, false, not, cond, _&&_, _||_}
 use Prim.Native.Nat.{ℕ, suc, _+_, _*_, _≤_, _<_, min, max}
 use native.Mathlib.Nat.{le-of-eq}
 use native.Mathlib.Omega.{arith}
@@ -166,6 +166,29 @@ unfolding minKey
 min-left f x y p q n h = min-is f x y p q ∙ ap (λ (b : Bool). cond b x y) (le-leb (minKey f x) (minKey f y) (omega (arith, bit-le x, bit-is y false n)))
 
 -- ---- a change of signs turns max into min. Nothing is asked of the operands
+-- by one choice
+first-of : {A : Type 0} (a b n : Bool) (x y : A) → cond ((a || false) || (not b && n)) x y ≡ cond a x (cond b y (cond n x y))
+first-of true b n x y = refl
+first-of false true n x y = refl
+first-of false false true x y = refl
+first-of false false false x y = refl
+
+min-first : (x y : Float) → cond ((lt x y || isNan y) || (not (lt y x) && negative x)) x y ≡ minimumNumber x y
+unfolding minimumNumber isNan negative lt
+min-first nan nan = refl
+min-first nan (inf t) = refl
+min-first nan (fin t n d) = refl
+min-first (inf s) nan = refl
+min-first (inf s) (inf t) = first-of (lt (inf s) (inf t)) (lt (inf t) (inf s)) (negative (inf s)) (inf s) (inf t)
+min-first (inf s) (fin t n d) = first-of (lt (inf s) (fin t n d)) (lt (fin t n d) (inf s)) (negative (inf s)) (inf s) (fin t n d)
+min-first (fin s m e) nan = refl
+min-first (fin s m e) (inf t) = first-of (lt (fin s m e) (inf t)) (lt (inf t) (fin s m e)) (negative (fin s m e)) (fin s m e) (inf t)
+min-first (fin s m e) (fin t n d) = first-of (lt (fin s m e) (fin t n d)) (lt (fin t n d) (fin s m e)) (negative (fin s m e)) (fin s m e) (fin t n d)
+
+pub min-told : (x y : Float) (unordered signed b : Bool) → unordered ≡ isNan y → signed ≡ negative x → ((lt x y || unordered) || (not (lt y x) && signed)) ≡ b → cond b x y ≡ minimumNumber x y
+min-told x y u s b eu es e =
+    ap (λ (c : Bool). cond c x y) (sym e) ∙ ap₂ (λ (p q : Bool). cond ((lt x y || p) || (not (lt y x) && q)) x y) eu es ∙ min-first x y
+
 pub neg-negative : (x : Float) → isNan x ≡ false → negative (neg x) ≡ not (negative x)
 unfolding isNan neg negative
 neg-negative nan e = absurd (subst T e tt)
@@ -189,7 +212,7 @@ pub max-neg : (x y : Float) → maximumNumber (neg x) (neg y) ≡ neg (minimumNu
 max-neg x y = sym (neg-neg (maximumNumber (neg x) (neg y))) ∙ ap neg (sym (min-neg (neg x) (neg y)) ∙ ap₂ minimumNumber (neg-neg x) (neg-neg y))
 
 -- ---- so max has min's laws
-max-is : (x y : Float) → maximumNumber x y ≡ neg (minimumNumber (neg x) (neg y))
+pub max-is : (x y : Float) → maximumNumber x y ≡ neg (minimumNumber (neg x) (neg y))
 max-is x y = sym (neg-neg (maximumNumber x y)) ∙ ap neg (sym (min-neg x y))
 
 pub max-fits : (f : Format) (x y : Float) → T (fits f x) → T (fits f y) → T (fits f (maximumNumber x y))
