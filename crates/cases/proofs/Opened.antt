@@ -5,7 +5,7 @@ use Rattle.lists.specs.Gather.{flatTo}
 use Rattle.lists.specs.Put.{fronted}
 use Rattle.floats.specs.Hypot.{hypot}
 use Rattle.floats.specs.Leaves.{negative, withSign, minimumNumber, maximumNumber, clamp, totalKey}
-use Rattle.game.specs.Players.{listed, numbersOf}
+use Rattle.game.specs.Players.{listed, numbersWhere}
 use Rattle.geometry.specs.Geometry.{marginsOf, computeMargins}
 use Rattle.positioning.specs.Positioning.{isIllegallyPositioned, isInAvoidanceRegion, isAvoidanceRegionActive, kickOffVerdict, attackVerdict, defenceVerdict}
 use Rattle.candidates.specs.Candidates.{crossed, candidatesTo, unfit, firstCandidate}
@@ -30,7 +30,7 @@ floats = tt
 
 -- an answer, down to the floats
 unfoldable pub answers : Unit {0}
-unfolding floats everyTo flatTo fronted listed numbersOf marginsOf computeMargins isIllegallyPositioned isInAvoidanceRegion isAvoidanceRegionActive kickOffVerdict attackVerdict defenceVerdict crossed candidatesTo unfit firstCandidate countTo firstTo playersOnField goalAreaExcess determineKickingPlayer movedPlayers referencesAfter ballJudgment ballAtRestart ballInSet penaltyShotPlace placeForPenalty poseFits refusalOf verdictOn teamVerdicts emptyList teamExcess sideKicker kickingPlayer leavingPlayers ballCalled restartPlaceOf setPlaceOf penaltyPlaceOf shotPlaceOf wishedPlace teamMargins teamDecision sideMargins sideDecision decisionOf answerOf
+unfolding floats everyTo flatTo fronted listed numbersWhere marginsOf computeMargins isIllegallyPositioned isInAvoidanceRegion isAvoidanceRegionActive kickOffVerdict attackVerdict defenceVerdict crossed candidatesTo unfit firstCandidate countTo firstTo playersOnField goalAreaExcess determineKickingPlayer movedPlayers referencesAfter ballJudgment ballAtRestart ballInSet penaltyShotPlace placeForPenalty poseFits refusalOf verdictOn teamVerdicts emptyList teamExcess sideKicker kickingPlayer leavingPlayers ballCalled restartPlaceOf setPlaceOf penaltyPlaceOf shotPlaceOf wishedPlace teamMargins teamDecision sideMargins sideDecision decisionOf answerOf
 answers = tt
 
 -- a sheet, down to the floats

@@ -8,7 +8,7 @@ use lib.ListN.{replicate}
 use lib.Ieee.{Float}
 use Rattle.lists.specs.Table.{table}
 use Rattle.game.specs.Game.{isShootout, isSet, isPlaying}
-use Rattle.game.specs.Players.{playerAt, marginsAt, teamOf, listed, numberAt, numbersOf}
+use Rattle.game.specs.Players.{playerAt, marginsAt, teamOf, listed, numberAt, numbersWhere}
 use Rattle.game.specs.declared.Ball.{Ball}
 use Rattle.game.specs.declared.FieldDimensions.{FieldDimensions}
 use Rattle.game.specs.declared.Game.{Game}
@@ -107,7 +107,7 @@ isLeaving p f = isLeavingTheField p f (p .allowance)
 
 -- the numbers of those of a team's players that leave the field, ascending
 unfoldable pub leavingPlayers : Team → FieldDimensions → PlayerList
-leavingPlayers t f = numbersOf (λ i. isLeaving (playerAt t i) f)
+leavingPlayers t f = numbersWhere (λ i. isLeaving (playerAt t i) f)
 
 -- ---- the ball judgment, or none
 unfoldable pub ballCalled : Situation → BallJudgment

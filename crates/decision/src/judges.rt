@@ -106,7 +106,7 @@ pub fn leaving_players(team: Team, field: FieldDimensions) -> PlayerList
     ensures { λ r. ⌜ r ≡ Spec.leavingPlayers team field ⌝ }
 {
     let flags = leaving_flags(team, field);
-    game::numbers_of(flags)
+    game::numbers_where(flags)
 }
 
 // A list of no player.

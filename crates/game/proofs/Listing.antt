@@ -13,7 +13,7 @@ use Rattle.lists.specs.Table.{table}
 use Rattle.lists.proofs.Gather.{flat-same}
 use Rattle.lists.proofs.Put.{put-turn}
 use Rattle.lists.proofs.Table.{table-at}
-use Rattle.game.specs.Players.{listed, numberAt, numbersOf, appendIf}
+use Rattle.game.specs.Players.{listed, numberAt, numbersWhere, appendIf}
 use Rattle.game.specs.declared.PlayerList.{PlayerList}
 
 -- one element at most
@@ -52,10 +52,10 @@ module _ (b : ℕ → Bool) (x : ℕ → ℕ) where
   listed-done i n l p q e = e ∙ ap (λ (k : ℕ). listed (flatTo k (λ j. onlyIf (b j) (x j)))) (le-antisymm p q)
 
 -- ---- properties that are the same at every place name the same players
-pub numbers-same : (b c : ℕ → Bool) → ((i : ℕ) → i < 20 → b i ≡ c i) → numbersOf b ≡ numbersOf c
-unfolding numbersOf
+pub numbers-same : (b c : ℕ → Bool) → ((i : ℕ) → i < 20 → b i ≡ c i) → numbersWhere b ≡ numbersWhere c
+unfolding numbersWhere
 numbers-same b c e = ap listed (flat-same 20 (λ i. onlyIf (b i) (numberAt i)) (λ i. onlyIf (c i) (numberAt i)) (λ i h. ap (λ (z : Bool). onlyIf z (numberAt i)) (e i h)))
 
 -- flags that are the table of a property
-pub numbers-flagged : (flags : List Bool) (b : ℕ → Bool) → flags ≡ table 20 b → numbersOf (λ i. getD flags i false) ≡ numbersOf b
+pub numbers-flagged : (flags : List Bool) (b : ℕ → Bool) → flags ≡ table 20 b → numbersWhere (λ i. getD flags i false) ≡ numbersWhere b
 numbers-flagged flags b e = numbers-same (λ i. getD flags i false) b (λ i h. ap (λ (l : List Bool). getD l i false) e ∙ table-at 20 b false i h)

@@ -43,8 +43,8 @@ abbrev pub numberAt : ℕ → ℕ
 numberAt i = i + 1
 
 -- the numbers of the players at the places with a property, ascending
-unfoldable pub numbersOf : (ℕ → Bool) → PlayerList
-numbersOf b = listed (flatTo 20 (λ i. onlyIf (b i) (numberAt i)))
+unfoldable pub numbersWhere : (ℕ → Bool) → PlayerList
+numbersWhere b = listed (flatTo 20 (λ i. onlyIf (b i) (numberAt i)))
 
 -- ---- of the private functions
 -- a counted array with one more number, or unchanged

@@ -395,8 +395,8 @@ fn append_if(wanted: bool, list: PlayerList, number: u8) -> PlayerList
 }
 
 // The numbers of the players whose flag is set, ascending.
-pub fn numbers_of(flags: [bool; 20]) -> PlayerList
-    ensures { λ r. ⌜ r ≡ Players.numbersOf (λ i. getD flags i false) ⌝ }
+pub fn numbers_where(flags: [bool; 20]) -> PlayerList
+    ensures { λ r. ⌜ r ≡ Players.numbersWhere (λ i. getD flags i false) ⌝ }
 {
     let numbers = [0u8; 20];
     let mut list = PlayerList { count: 0, numbers };

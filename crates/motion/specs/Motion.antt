@@ -8,7 +8,7 @@ use Rattle.floats.specs.Arithmetic.{_-₃₂_}
 use Rattle.floats.specs.Leaves.{abs}
 use Rattle.floats.specs.Hypot.{hypot}
 use Rattle.game.specs.Game.{isUnpenalized}
-use Rattle.game.specs.Players.{playerAt, numbersOf}
+use Rattle.game.specs.Players.{playerAt, numbersWhere}
 use Rattle.game.specs.declared.Player.{Player}
 use Rattle.game.specs.declared.PlayerList.{PlayerList}
 use Rattle.game.specs.declared.PlayerPose.{PlayerPose}
@@ -53,7 +53,7 @@ hasMoved player = isUnpenalized (player .penalty) && isSeenAway (player .pose) (
 
 -- the numbers of those of a team's players that have moved, ascending
 unfoldable pub movedPlayers : Team → PlayerList
-movedPlayers t = numbersOf (λ i. hasMoved (playerAt t i))
+movedPlayers t = numbersWhere (λ i. hasMoved (playerAt t i))
 
 -- no reference pose once it has moved
 abbrev pub unlessMoved : Bool → ReferencePose → ReferencePose

@@ -111,7 +111,7 @@ pub fn check_motion(team: Team) -> Motion
     ensures { λ r. ⌜ r ≡ Spec.checkMotion team ⌝ }
 {
     let flags = moved_flags(team);
-    let moved = game::numbers_of(flags);
+    let moved = game::numbers_where(flags);
     let references = references_after(team, flags);
     Motion { moved, references }
 }

@@ -7,7 +7,7 @@ use borrow.Author.Needs.{needs}
 use lib.ListN.{getD}
 use Rattle.lists.specs.Table.{table}
 use Rattle.lists.proofs.Table.{table-at, table-same}
-use Rattle.game.specs.Players.{playerAt, numbersOf}
+use Rattle.game.specs.Players.{playerAt, numbersWhere}
 use Rattle.game.specs.declared.PlayerList.{PlayerList}
 use Rattle.game.specs.declared.Team.{Team}
 use Rattle.game.proofs.Listing.{numbers-flagged}
@@ -17,7 +17,7 @@ use Rattle.motion.specs.declared.PlayerReference.{PlayerReference}
 use Rattle.motion.proofs.check_motion.Statement.{statement}
 use Rattle.motion.proofs.check_motion.Tie as tie
 
-moved-told : (t : Team) (flags : List Bool) → flags ≡ movedFlags t → numbersOf (λ i. getD flags i false) ≡ movedPlayers t
+moved-told : (t : Team) (flags : List Bool) → flags ≡ movedFlags t → numbersWhere (λ i. getD flags i false) ≡ movedPlayers t
 unfolding movedPlayers
 moved-told t flags e = numbers-flagged flags (λ i. hasMoved (playerAt t i)) e
 
@@ -30,8 +30,8 @@ references-told t flags e =
 moved-flags-requires : tie.Need-moved-flags-requires
 moved-flags-requires c κs = search needs
 
-numbers-of-requires : tie.Need-numbers-of-requires
-numbers-of-requires c κs = search needs
+numbers-where-requires : tie.Need-numbers-where-requires
+numbers-where-requires c κs = search needs
 
 references-after-requires : tie.Need-references-after-requires
 references-after-requires c κs = search needs
@@ -40,9 +40,9 @@ returns : tie.Need-returns
 returns c =
     let start = c .before .before .before in
     let flags = c .before .before .moved-flags .ensures in
-    ap₂ (λ (m : PlayerList) (r : List PlayerReference). record { moved = m; references = r }) (c .before .numbers-of .ensures ∙ moved-told (start .args .team) _ flags)
+    ap₂ (λ (m : PlayerList) (r : List PlayerReference). record { moved = m; references = r }) (c .before .numbers-where .ensures ∙ moved-told (start .args .team) _ flags)
     (c .references-after .ensures ∙ references-told (start .args .team) _ flags)
 
 pub check-motion-spec : {M : Type 1} → statement M
 check-motion-spec =
-    tie.close (tie.spec moved-flags-requires numbers-of-requires references-after-requires returns)
+    tie.close (tie.spec moved-flags-requires numbers-where-requires references-after-requires returns)

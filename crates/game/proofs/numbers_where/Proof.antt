@@ -7,10 +7,10 @@ use native.Mathlib.Omega.{arith}
 use borrow.Author.Needs.{needs}
 use lib.ListN.{getD}
 use Rattle.lists.specs.Gather.{flatTo, onlyIf}
-use Rattle.game.specs.Players.{listed, numberAt, numbersOf}
+use Rattle.game.specs.Players.{listed, numberAt, numbersWhere}
 use Rattle.game.proofs.Listing.{listed-none, listed-count, listed-turn, listed-done}
-use Rattle.game.proofs.numbers_of.Statement.{statement}
-use Rattle.game.proofs.numbers_of.Tie as tie
+use Rattle.game.proofs.numbers_where.Statement.{statement}
+use Rattle.game.proofs.numbers_where.Tie as tie
 
 abbrev flag : List Bool → ℕ → Bool
 flag l i = getD l i false
@@ -52,12 +52,12 @@ loop-again c =
     )
 
 returns : tie.Need-returns Inv-loop μ-loop
-unfolding numbersOf
+unfolding numbersWhere
 returns c =
     listed-done (flag (c .before .before .args .t1)) numberAt (c .before .loop .i) 20 (c .before .loop .list) (c .before .loop .inv .0) (c .loop-test .left) (c .before .loop .inv .1)
 
-pub numbers-of-spec : {M : Type 1} → statement M
-numbers-of-spec =
+pub numbers-where-spec : {M : Type 1} → statement M
+numbers-where-spec =
     tie.close
     (tie.spec
     Inv-loop
