@@ -4,7 +4,7 @@ use mathlib.Core.Path.{_≡_, refl, sym, ap, ap₂, _∙_}
 use mathlib.Core.Bool.{Bool, true, false, _&&_, cond, true≢false}
 use mathlib.Core.Logic.{_⊎_, inl, inr}
 use Prim.Native.Nat.{ℕ, zero, suc, _+_, _≤_, _<_}
-use native.Mathlib.Nat.{le-antisymm, le-refl, le-step, eq-or-lt-of-le, le-of-suc-le-suc, not-suc-le-zero}
+use native.Mathlib.Nat.{le-antisymm, le-refl, le-step, eq-or-lt-of-le, not-suc-le-zero}
 use native.Mathlib.Numerals.{add-one}
 use native.Mathlib.Omega.{arith}
 use lib.Dec.{eqb}
@@ -80,7 +80,7 @@ front-stops (suc n) P h = go (grown (frontTo n P) n (P n)) (turned (frontTo n P)
     go m (more e p) l b ih = absurd (omega arith)
     go m (kept e) l b ih = at-n e (eq-or-lt-of-le b) ih
 
-all-hold : (n : ℕ) (P : ℕ → Bool) → ((k : ℕ) → k < n → P k ≡ true) → everyTo n P ≡ true
+pub all-hold : (n : ℕ) (P : ℕ → Bool) → ((k : ℕ) → k < n → P k ≡ true) → everyTo n P ≡ true
 unfolding everyTo
 all-hold zero P e = refl
 all-hold (suc n) P e = ap₂ (λ (a b : Bool). a && b) (all-hold n P (λ k h. e k (le-step h))) (e n (le-refl (suc n)))

@@ -1,12 +1,10 @@
 -- A side's items of the situation turned half round. Assumes nothing.
 use mathlib.Core.Path.{_≡_, refl, sym, ap, ap₂, _∙_, subst}
 use mathlib.Core.Logic.{inl}
-use mathlib.Core.Bool.{Bool, true, false, cond, _&&_}
+use mathlib.Core.Bool.{Bool, true, cond, _&&_}
 use mathlib.Core.List.{List, [], _∷_, map}
-use Prim.Native.Nat.{ℕ, _<_}
+use Prim.Native.Nat.{ℕ}
 use Rattle.lists.proofs.Table.{table-same}
-use Rattle.lists.proofs.Gather.{flat-same}
-use Rattle.lists.specs.Gather.{onlyIf}
 use Rattle.game.specs.Game.{isUnpenalized, isPresent, isPlaying}
 use Rattle.game.specs.Players.{playerAt, marginsAt, teamOf, numberAt}
 use Rattle.game.proofs.Listing.{numbers-same}
@@ -15,7 +13,6 @@ use Rattle.game.specs.declared.FieldDimensions.{FieldDimensions}
 use Rattle.game.specs.declared.Game.{Game}
 use Rattle.game.specs.declared.MaybeSide.{MaybeSide}
 use Rattle.game.specs.declared.MaybeSide.the-variants.{NoSide, Of}
-use Rattle.game.specs.declared.MaybeNumber.{MaybeNumber}
 use Rattle.game.specs.declared.Player.{Player}
 use Rattle.game.specs.declared.PlayerList.{PlayerList}
 use Rattle.game.specs.declared.PlayerMargins.{PlayerMargins}
@@ -27,27 +24,23 @@ use Rattle.game.specs.declared.Side.{Side}
 use Rattle.game.specs.declared.Side.the-variants.{Home, Away}
 use Rattle.game.specs.declared.Situation.{Situation}
 use Rattle.game.specs.declared.Team.{Team}
-use lib.Ieee.{Float, neg}
-use Rattle.geometry.specs.Geometry.{sideToSign, computeMargins, isLeavingTheField}
-use Rattle.geometry.specs.Turned.{changedSeen, changedReference, changedPlayer, turnedPlayer, turnedTeam, turnedGame, turnedBall, turnedPose, exchanged}
+use Rattle.geometry.specs.Geometry.{sideToSign, computeMargins}
+use Rattle.geometry.specs.Turned.{changedSeen, changedReference, turnedPlayer, turnedTeam, turnedGame, turnedBall}
 use Rattle.positioning.specs.Positioning.{isIllegallyPositioned}
 use Rattle.positioning.specs.declared.Positioning.{Positioning}
 use Rattle.positioning.proofs.Turned.{player-at-changed, sign-exchanged, compute-margins-changed, verdict-turned, leaving-changed}
 use Rattle.selection.specs.Counts.{isOnField, playersOnField}
-use Rattle.selection.specs.Excess.{goalAreaExcess}
 use Rattle.selection.specs.Kicker.{determineKickingPlayer}
 use Rattle.selection.proofs.Counting.{count-same}
 use Rattle.selection.proofs.ExcessLaws.{excess-same}
 use Rattle.selection.proofs.KickerLaws.{turnedSeen, kicker-turned}
-use Rattle.motion.specs.Motion.{movedPlayers, referencesAfter}
+use Rattle.motion.specs.Motion.{referencesAfter}
 use Rattle.motion.specs.Turned.{changedElement}
 use Rattle.motion.specs.declared.PlayerReference.{PlayerReference}
 use Rattle.motion.proofs.Turned.{moved-players-turned, references-turned}
-use Rattle.decision.specs.Decision.{verdictOn, verdictAt, teamVerdicts, teamExcess, isExcessAsked, emptyList, isLeaving, leavingPlayers, teamMargins, sideMargins, teamDecision, sideDecision, kickerNumbered, sideKicker, kickerOf, kickerIfAny, kickingPlayer}
+use Rattle.decision.specs.Decision.{verdictOn, verdictAt, teamVerdicts, teamExcess, isExcessAsked, emptyList, isLeaving, leavingPlayers, teamMargins, sideMargins, teamDecision, sideDecision, kickerNumbered, sideKicker, kickerIfAny, kickingPlayer}
 use Rattle.decision.specs.HalfTurn.{turned, SameReference, SameReferences, SameSide}
 use Rattle.decision.specs.declared.call.SideDecision.{SideDecision}
-use Rattle.decision.specs.declared.judges.PlayerVerdict.{PlayerVerdict}
-use Rattle.decision.specs.declared.judges.KickingPlayer.{KickingPlayer}
 
 -- ---- the players
 at-turned : (t : Team) (i : ℕ) → playerAt (turnedTeam t) i ≡ turnedPlayer (playerAt t i)

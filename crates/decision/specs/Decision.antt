@@ -1,6 +1,6 @@
 -- The items of a decision, as document 01 names them: each player's verdict; each side's excess list; the kicking player; the lists of players leaving
 -- and moved; the reference poses after motion; the ball judgment; the place wished for. Definitions only.
-use mathlib.Core.Bool.{Bool, true, false, not, cond, _&&_, _||_}
+use mathlib.Core.Bool.{Bool, not, cond, _&&_, _||_}
 use mathlib.Core.List.{List, []}
 use Prim.Native.Nat.{ℕ}
 use lib.Dec.{eqb}
@@ -38,7 +38,6 @@ use Rattle.ball.specs.Ball.{ballJudgment}
 use Rattle.places.specs.Places.{ballAtRestart, ballInSet, penaltyShotPlace, penaltyGoalkeeperPlace, playerNumbered}
 use Rattle.ball.specs.declared.BallJudgment.{BallJudgment}
 use Rattle.ball.specs.declared.BallJudgment.the-variants.{NoJudgment}
-use Rattle.motion.specs.declared.PlayerReference.{PlayerReference}
 use Rattle.places.specs.declared.Placement.{Placement}
 use Rattle.places.specs.declared.Placement.the-variants.{NoPlace}
 use Rattle.penalty.specs.Penalty.{placeForPenalty}

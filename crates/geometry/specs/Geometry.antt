@@ -1,7 +1,6 @@
 -- Where a player stands, by the dimensions of the field: binary32, each operation rounded once. Definitions only.
 use mathlib.Core.Bool.{Bool, false, _&&_, _||_}
 use mathlib.Core.List.{List}
-use Prim.Native.Nat.{ℕ}
 use lib.Ieee.{Float, binary32, neg, lt, le, ofBits}
 use Rattle.floats.specs.Arithmetic.{_+₃₂_, _-₃₂_, _*₃₂_, half, one, pi}
 use Rattle.floats.specs.Leaves.{abs, minimumNumber, maximumNumber, remEuclid}

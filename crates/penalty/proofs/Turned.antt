@@ -26,7 +26,7 @@ use Rattle.game.specs.declared.Side.the-variants.{Home, Away}
 use Rattle.game.specs.declared.SideMapping.{SideMapping}
 use Rattle.game.specs.declared.Team.{Team}
 use Rattle.geometry.specs.Geometry.{sideToSign}
-use Rattle.geometry.specs.Turned.{signed, changedPose, changedSeen, changedPlayer, changedTeam, exchanged, changedEnds, turnedTeam}
+use Rattle.geometry.specs.Turned.{signed, changedPose, changedSeen, changedTeam, exchanged, changedEnds, turnedTeam}
 use Rattle.positioning.proofs.Turned.{distance-changed, sign-changed, player-at-changed}
 use Rattle.places.specs.Places.{playerNumbered}
 use Rattle.places.specs.Turned.{HalfRound, ChangedPlace, none, player, SamePlace}

@@ -1,5 +1,5 @@
 -- Where a penalized player is placed: next to a touchline, at the first candidate with enough space, or at the one with the most. Definitions only.
-use mathlib.Core.Bool.{Bool, true, false, not, cond}
+use mathlib.Core.Bool.{Bool, true, false, cond}
 use mathlib.Core.List.{List, [], _∷_, _++_, map}
 use Prim.Native.Nat.{ℕ, suc, Ordering, Ordering·lt, Ordering·eq, Ordering·gt}
 use lib.Dec.{eqb, leb}

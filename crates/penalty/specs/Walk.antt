@@ -1,14 +1,13 @@
 -- What the parts of the code for a penalty place tell each other. Definitions only: nothing here stands in the contract of an exported function.
-use mathlib.Core.Bool.{Bool, true, false, cond}
+use mathlib.Core.Bool.{true, false, cond}
 use mathlib.Core.List.{List, _++_, map}
-use Prim.Native.Nat.{ℕ, suc}
+use Prim.Native.Nat.{ℕ}
 use lib.ListN.{getD}
 use lib.Ieee.{Float, nan, le}
 use Rattle.floats.specs.Arithmetic.{_-₃₂_, _*₃₂_}
 use Rattle.floats.specs.Leaves.{minimumNumber, totalOrder}
 use Rattle.floats.specs.Hypot.{hypot}
 use Rattle.game.specs.declared.Player.{Player}
-use Rattle.game.specs.declared.Team.{Team}
 use Rattle.candidates.specs.Candidates.{candidateAt, isCandidate}
 use Rattle.penalty.specs.declared.Others.{Others}
 use Rattle.penalty.specs.declared.Choice.{Choice}

@@ -1,5 +1,5 @@
 -- What is refused: conditions 1 to 5 of document 01's table, in their order. Definitions only.
-use mathlib.Core.Bool.{Bool, true, false, _&&_, _||_, cond}
+use mathlib.Core.Bool.{Bool, true, _&&_, _||_, cond}
 use mathlib.Core.List.{List, [], _∷_}
 use Prim.Native.Nat.{ℕ}
 use lib.Dec.{leb, eqb}

@@ -1,3 +1,4 @@
 mod BlockLaws
 mod Written
 pub mod Answers
+pub mod Room

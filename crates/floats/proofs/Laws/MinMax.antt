@@ -11,11 +11,11 @@ use lib.Dec.{T, leb}
 use lib.Ieee.{Float, nan, inf, fin, Format, neg, lt, le, fits, isNan}
 use lib.Ieee.Fits.{neg-fits, cond-fits}
 use Rattle.floats.specs.Leaves.{negative, withSign, abs, minimumNumber, maximumNumber, clamp}
-use Rattle.floats.specs.Values.{posZero, Alike, Number}
+use Rattle.floats.specs.Values.{Alike, Number}
 use Rattle.floats.specs.Height.{mid, height}
 use Rattle.floats.proofs.Nan.{nan-is}
 use Rattle.floats.proofs.Laws.Signs.{neg-neg, lt-neg, le-neg}
-use Rattle.floats.proofs.Laws.Order.{le→≤, lt→<, nlt→≤, neg-nan, posZero-number, neg-number, posZero-height, lt-numbers}
+use Rattle.floats.proofs.Laws.Order.{le→≤, lt→<, nlt→≤, neg-nan, neg-number, lt-numbers}
 use Rattle.floats.proofs.Laws.Height.{height-top, height-neg, height-same}
 
 -- ---- picking by a key

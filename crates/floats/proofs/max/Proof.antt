@@ -1,5 +1,5 @@
 use borrow.Author.Needs.{needs}
-use mathlib.Core.Path.{_≡_, sym, ap, _∙_}
+use mathlib.Core.Path.{sym, ap, _∙_}
 use lib.Ieee.{neg}
 use Rattle.floats.proofs.Laws.MinMax.{max-is}
 use Rattle.floats.proofs.max.Statement.{statement}

@@ -2,17 +2,14 @@
 use mathlib.Core.Path.{_≡_, ap, ap₂, _∙_}
 use mathlib.Core.Bool.{Bool, false}
 use mathlib.Core.List.{List}
-use Prim.Native.Nat.{ℕ}
 use borrow.Author.Needs.{needs}
 use lib.ListN.{getD}
-use Rattle.lists.specs.Table.{table}
 use Rattle.lists.proofs.Table.{table-at, table-same}
 use Rattle.game.specs.Players.{playerAt, numbersWhere}
 use Rattle.game.specs.declared.PlayerList.{PlayerList}
 use Rattle.game.specs.declared.Team.{Team}
 use Rattle.game.proofs.Listing.{numbers-flagged}
-use Rattle.motion.specs.Motion.{hasMoved, movedPlayers, movedFlags, referenceUnless, referenceAfter, referencesAfter, referencesUnless, checkMotion}
-use Rattle.motion.specs.declared.Motion.{Motion}
+use Rattle.motion.specs.Motion.{hasMoved, movedPlayers, movedFlags, referenceUnless, referenceAfter, referencesAfter, referencesUnless}
 use Rattle.motion.specs.declared.PlayerReference.{PlayerReference}
 use Rattle.motion.proofs.check_motion.Statement.{statement}
 use Rattle.motion.proofs.check_motion.Tie as tie

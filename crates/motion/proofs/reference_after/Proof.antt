@@ -1,4 +1,3 @@
-use borrow.Author.Needs.{needs}
 use Rattle.motion.proofs.reference_after.Statement.{statement}
 use Rattle.motion.proofs.reference_after.Tie as tie
 

@@ -4,8 +4,8 @@ use borrow.Author.Needs.{needs}
 use Rattle.lists.specs.Fold.{foldTo}
 use Rattle.lists.proofs.Fold.{fold-none, fold-turn, fold-done}
 use Rattle.penalty.specs.Walk.{nearPlace}
-use Rattle.penalty.specs.Penalty.{distanceFrom, Spot}
-use Rattle.penalty.proofs.Nearest.{least-fold, least-table}
+use Rattle.penalty.specs.Penalty.{distanceFrom}
+use Rattle.penalty.proofs.Nearest.{least-table}
 use lib.ListN.{length, getD}
 use lib.Ieee.{nan}
 use Rattle.penalty.proofs.near_places.Statement.{statement}

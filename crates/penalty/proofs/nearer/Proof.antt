@@ -1,5 +1,4 @@
-use mathlib.Core.Path.{_≡_, sym, subst, _∙_}
-use mathlib.Core.Bool.{Bool, true}
+use mathlib.Core.Path.{sym, subst}
 use lib.Dec.{T}
 use borrow.Author.Needs.{needs}
 use Rattle.penalty.proofs.Nearest.{far-kept}

@@ -1,6 +1,6 @@
 -- The loop's answer so far is that of the places passed.
 use borrow.Author.Needs.{needs}
-use Prim.Native.Nat.{ℕ, _≤_, _-_}
+use Prim.Native.Nat.{_≤_, _-_}
 use mathlib.Core.Path.{_≡_}
 use lib.ListN.{getD}
 use Rattle.game.specs.Players.{nobody}
