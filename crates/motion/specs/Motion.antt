@@ -64,6 +64,7 @@ unlessMoved false r = r
 abbrev pub referenceUnless : Bool → Player → PlayerReference
 referenceUnless moved p = record { reference = unlessMoved moved (p .reference) }
 
+-- the same by whether it has
 abbrev pub referenceAfter : Player → PlayerReference
 referenceAfter p = referenceUnless (hasMoved p) p
 
