@@ -9,12 +9,12 @@
 #include <stddef.h>
 #include <stdint.h>
 
+/* The words of a situation: how many there are, the place of each and its values. A float is its bit pattern. */
+#include "referee_words.h"
+
 #ifdef __cplusplus
 extern "C" {
 #endif
-
-/* The words of a situation; a float is its bit pattern. */
-#define REFEREE_WORDS 563
 
 /* Every sheet has room here: eight lists of at most 20 players, a kicker, a ball judgment, a place and the header are 166 lines of 45 bytes. */
 #define REFEREE_SHEET_BYTES 7470

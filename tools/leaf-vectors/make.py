@@ -1,14 +1,16 @@
 #!/usr/bin/env python3
-"""Makes the vectors of crates/leaf_vectors: src/LEAF.rt for each leaf of the crate `floats`, and stdout.
+"""Makes what the program leaf_vectors reads, and what it must print: crates/leaf_vectors/stdin and stdout,
+and src/decimals.rt, the numbers that it has in decimal.
 
 usage: make.py            write the files
        make.py --check    write nothing, and fail where a file is not what would be written
+       make.py --list     print each vector with its line, its function and why it is there
 
-What a leaf should give is computed here from its definition, on bit patterns and whole numbers alone:
-minimumNumber, maximumNumber, totalOrder and hypot are those of IEEE 754-2019; abs, copysign, clamp and
-rem_euclid are those of Rust's documentation of f32. No leaf is run, and no float is used. The vectors of
-hypot and rem_euclid are computed a second time, with decimal numbers of many digits, and the script fails
-where the two differ.
+What a function of `floats` should give is computed here from its definition, on bit patterns and whole numbers
+alone: minimumNumber, maximumNumber, totalOrder and hypot are those of IEEE 754-2019; abs, copysign, clamp and
+rem_euclid are those of Rust's documentation of f32. No function of the project is run, and no float is used. The
+vectors of hypot and rem_euclid are computed a second time, with decimal numbers of many digits, and the script
+fails where the two differ. The vectors of `candidates`, and two of hypot, are document 01's.
 
 The choice of the operands is the same at each run: those that look random come from a generator that is
 written out below. Where the C library can be loaded, the script also says at how many vectors of hypot its
@@ -603,7 +605,7 @@ def rows_hypot(dice):
     return out
 
 
-# ---- the numbers that src/bits.rt has in decimal ----
+# ---- the numbers that src/decimals.rt has in decimal ----
 
 NUMBERS = [p + s for p in (0, ONE, 1, NORMAL - 1, NORMAL, MAX, ONE + 1, ONE - 1, HALF_TURN, TURN) for s in (0, SIGN)]
 NUMBERS += [of_decimal(t) for t in ("0.1", "-0.3", "0.5", "1.5", "2", "-2.5", "14", "-6.75", "0.0625", "65535")]
@@ -624,44 +626,22 @@ def in_decimal(p):
     return text
 
 
-# ---- the files ----
+# ---- the functions of `floats` ----
 
-CRATE = pathlib.Path(__file__).resolve().parents[2] / "crates" / "leaf_vectors"
-
-# for each leaf: what a row of its vectors has, what is expected, and the rows
+# for each: its number in a vector, what is expected, and the operands
 LEAVES = {
-    "is_nan": ("the pattern of x, and 1 for a NaN, else 0", expect_is_nan, rows_of_one),
-    "bits": (
-        "a place in NUMBERS, and the pattern of the number there; past the last place a NaN's",
-        expect_bits,
-        rows_bits,
-    ),
-    "from_bits": ("any pattern, and the pattern of the number made of it", expect_from_bits, rows_of_one),
-    "abs": ("the pattern of x, and of its absolute value", expect_abs, rows_of_one),
-    "copysign": ("the patterns of x and y, and of x's magnitude with y's sign", expect_copysign, rows_copysign),
-    "min": ("the patterns of x and y, and of their minimumNumber (IEEE 754-2019, 9.6)", expect_min, rows_by_order),
-    "max": ("the patterns of x and y, and of their maximumNumber (IEEE 754-2019, 9.6)", expect_max, rows_by_order),
-    "clamp": (
-        "the patterns of x, of the lower bound and of the upper, and of x held between them",
-        expect_clamp,
-        rows_clamp,
-    ),
-    "total_cmp": (
-        "the patterns of x and y, and their totalOrder (IEEE 754-2019, 5.10): 0 less, 1 equal, 2 greater",
-        expect_total_cmp,
-        rows_by_order,
-    ),
-    "rem_euclid": (
-        "the patterns of x and y, and of r = x % y, or of r + |y| rounded once where r < 0",
-        expect_rem_euclid,
-        rows_rem_euclid,
-    ),
-    "hypot": (
-        "the patterns of x and y, and of the f32 nearest to the exact root of x * x + y * y, ties to even",
-        expect_hypot,
-        rows_hypot,
-    ),
-    "from_count": ("a whole number below 65536, and the pattern of its f32", expect_from_count, rows_from_count),
+    "is_nan": (1, expect_is_nan, rows_of_one),
+    "bits": (2, expect_bits, rows_bits),
+    "from_bits": (3, expect_from_bits, rows_of_one),
+    "abs": (4, expect_abs, rows_of_one),
+    "copysign": (5, expect_copysign, rows_copysign),
+    "min": (6, expect_min, rows_by_order),
+    "max": (7, expect_max, rows_by_order),
+    "clamp": (8, expect_clamp, rows_clamp),
+    "total_cmp": (9, expect_total_cmp, rows_by_order),
+    "rem_euclid": (10, expect_rem_euclid, rows_rem_euclid),
+    "hypot": (11, expect_hypot, rows_hypot),
+    "from_count": (12, expect_from_count, rows_from_count),
 }
 
 
@@ -676,35 +656,85 @@ def all_rows():
     return out
 
 
-def word(number, plain):
-    """A number as the source has it: a plain number, or a pattern in hexadecimal."""
-    return str(number) if plain else f"0x{number >> 16:04x}_{number % 65536:04x}"
+# ---- document 01's cases: 'Candidates, then the leaves', 'Both sides of a line' and the table of refusals ----
+
+FILL = of_decimal("7")  # what each place of the list holds before a call
+PLACES = 16  # how many places the list has
+FILLED, REFUSAL, FILLED_AT, ANSWERED, ANSWERED_AT = 13, 14, 15, 16, 17  # the functions' numbers
 
 
-def source(leaf, rows):
-    """The text of src/LEAF.rt."""
-    says, expect, _ = LEAVES[leaf]
-    lines = [
-        f"// Vectors of the leaf `{leaf}`.",
-        f"// A row has {says}.",
-        "// Made by tools/leaf-vectors/make.py, with exact whole numbers and never by the leaf itself.",
-        "// Change that script and not this file.",
-        "// A comment has the row's index and why the row is here. A NaN is expected as 0x7fc0_0000.",
-    ]
-    if leaf == "hypot":
-        lines.append(f"// At the rows marked `{GLIBC}`, and at some near a tie, the hypotf of that C library")
-        lines.append("// gives a neighbour of the nearest f32.")
-    if leaf == "bits":
-        lines += ["", "// Numbers with the digits that tell them from every other f32."]
-        lines += [f"pub const NUMBERS: [f32; {len(NUMBERS)}] = ["]
-        lines += [f"    {in_decimal(p)}," for p in NUMBERS] + ["];"]
-    lines += ["", "// How many numbers a row has.", f"pub const WIDTH: usize = {len(rows[0])};", ""]
-    lines += [f"pub const VECTORS: [u32; WIDTH * {len(rows)}] = ["]
-    for index, (*operands, label) in enumerate(rows):
-        first, *others = [word(x, leaf in ("bits", "from_count")) for x in operands]
-        others.append(word(expect(*operands), leaf in ("is_nan", "total_cmp")))
-        lines += [f"    {first}, // {index}: {label}"] + [f"    {other}," for other in others]
-    return "\n".join(lines + ["];", ""])
+def floats(text):
+    """The patterns of decimal numbers."""
+    return [NAN if word == "nan" else of_decimal(word) for word in text.split()]
+
+
+# start, min, max and step; how many places are lent; the refusal, 0 for none; the candidates; why
+LISTS = [
+    ("-5 -6.75 -0.25 2", 16, 0, "-5 -3 -1", "step 2"),
+    ("-5 -6.75 -0.25 2", 3, 0, "-5 -3 -1", "3 lent"),
+    ("-5 -6.75 -0.25 2", 2, 6, "", "6, 2 lent"),
+    ("-5 -6.75 -0.25 1", 16, 0, "-5 -6 -4 -3 -2 -1", "step 1"),
+    # bounds of which one is a NaN, or which are crossed, come before refusal 5
+    ("0 1 -1 1", 16, 0, "0", "min above max"),
+    ("0 nan 1 1", 16, 0, "nan", "min NaN"),
+    ("nan 1 nan 0.01", 16, 0, "nan", "max NaN"),
+    # a step of 0 gives the clamped start, and the least other step is 1/64
+    ("-8 -6.75 -0.25 0", 16, 0, "-6.75", "step 0"),
+    ("0 0 0.015625 0.015625", 16, 0, "0 0.015625", "step 1/64"),
+    # refusal 5, and 5 before 6
+    ("-5 -6.75 -0.25 0.01", 0, 5, "", "5, step 0.01, nothing lent"),
+    ("-5 -6.75 -0.25 nan", 16, 5, "", "5, step NaN"),
+    ("nan -6.75 -0.25 2", 16, 5, "", "5, start NaN"),
+    ("-5 -65 -0.25 2", 16, 5, "", "5, min -65"),
+]
+
+
+def document_01():
+    """The vectors of document 01, each with its label."""
+    out = []
+    for query, lent, refusal, candidates, why in LISTS:
+        asked, want = floats(query), floats(candidates)
+        places = want + [FILL] * (PLACES - len(want))
+        rows = [(FILLED, *asked, lent, 0, len(want)), (REFUSAL, *asked, lent, 0, refusal)]
+        rows += [(FILLED_AT, *asked, lent, k, p) for k, p in enumerate(places)]
+        out += labelled(f"candidates, {why}", rows)
+    # the part that the entry answers
+    asked, want = floats("-5 -6.75 -0.25 2"), floats("-5 -3 -1")
+    rows = [(ANSWERED, *asked, PLACES, 0, len(want))]
+    rows += [(ANSWERED_AT, *asked, PLACES, k, p) for k, p in enumerate(want)]
+    out += labelled("candidates, the part", rows)
+    # 8,200 places always do
+    out.append((REFUSAL, *floats("0 -64 64 0.015625"), 8200, 0, 0, "candidates, 8200 lent"))
+    hypot = LEAVES["hypot"][0]
+    out.append((hypot, *floats("3 4"), 0, 0, 0, 0, of_decimal("5"), "hypot of 3 and 4"))
+    out.append((hypot, 0, SIGN, 0, 0, 0, 0, 0, "hypot of 0 and -0"))
+    return out
+
+
+# ---- the files ----
+
+CRATE = pathlib.Path(__file__).resolve().parents[2] / "crates" / "leaf_vectors"
+WIDTH = 8  # the numbers of a vector: its function's, six operands and what is expected
+
+
+def vectors(rows_of):
+    """All vectors, each with its label: the computed ones, then document 01's."""
+    out = []
+    for leaf, (number, expect, _) in LEAVES.items():
+        for *operands, label in rows_of[leaf]:
+            unused = [0] * (WIDTH - 2 - len(operands))
+            out.append((number, *operands, *unused, expect(*operands), f"{leaf}, {label}"))
+    out += document_01()
+    assert all(len(vector) == WIDTH + 1 for vector in out)
+    return out
+
+
+def decimals_source():
+    """The text of src/decimals.rt."""
+    lines = ["// Numbers with the digits that tell them from every other f32: the operands of `bits`."]
+    lines += ["// Made by tools/leaf-vectors/make.py. Change that script and not this file."]
+    lines += [f"pub const NUMBERS: [f32; {len(NUMBERS)}] = ["]
+    return "\n".join(lines + [f"    {in_decimal(p)}," for p in NUMBERS] + ["];", ""])
 
 
 def compare_with_libm(rows):
@@ -725,11 +755,19 @@ def compare_with_libm(rows):
 
 
 def main():
-    """Writes the files, or compares them."""
+    """Writes the files, compares them, or prints the vectors."""
     rows_of = all_rows()
     cross_check(rows_of)
-    texts = {f"src/{leaf}.rt": source(leaf, rows) for leaf, rows in rows_of.items()}
-    texts["stdout"] = "".join(f"{leaf} {len(rows)} of {len(rows)}\n" for leaf, rows in rows_of.items())
+    made = vectors(rows_of)
+    if sys.argv[1:] == ["--list"]:
+        for line, (*numbers, label) in enumerate(made, 1):
+            print(f"{line}: {' '.join(f'{number:#x}' for number in numbers)}: {label}")
+        return 0
+    texts = {
+        "stdin": "".join(" ".join(map(str, vector[:WIDTH])) + "\n" for vector in made),
+        "stdout": f"{len(made)} of {len(made)} agree\n",
+        "src/decimals.rt": decimals_source(),
+    }
     wrong = 0
     for name, text in texts.items():
         file = CRATE / name
@@ -738,7 +776,7 @@ def main():
         elif not file.is_file() or file.read_text() != text:
             print("not as made:", name)
             wrong = 1
-    print(texts["stdout"], end="")
+    print(", ".join(f"{leaf} {len(rows)}" for leaf, rows in rows_of.items()), f"and document 01's {len(document_01())}")
     print(compare_with_libm(rows_of["hypot"]))
     return wrong
 

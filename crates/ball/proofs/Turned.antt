@@ -1,5 +1,5 @@
--- The ball judgment is the same after a change of signs, and after a half-turn too but for the throw-in of a ball that went out at x zero and was touched by nobody.
--- There the side is the one in whose half the ball is, x zero is in the right half before and after the turn, and the turn exchanges the ends. Assumes nothing.
+-- The ball judgment is the same after a change of signs, but, where x changes its sign, for the throw-in of a ball that went out at x zero and was touched by nobody.
+-- There the side is the one in whose half the ball is, x zero is in the right half before and after the change, and the change exchanges the ends. Assumes nothing.
 use mathlib.Core.Path.{_≡_, refl, sym, ap, ap₂, _∙_, subst}
 use mathlib.Core.Logic.{inl, inr}
 use mathlib.Core.Bool.{Bool, true, false, not, cond, _&&_}
@@ -9,6 +9,7 @@ use native.Mathlib.Omega.{arith}
 use borrow.Author.Tests.{eqb-true, eq-eqb}
 use lib.Dec.{T}
 use lib.Ieee.{Float, binary32, neg, lt, eq, ofBits}
+use Rattle.lists.proofs.Bools.{both-true}
 use Rattle.floats.specs.Arithmetic.{_+₃₂_, _*₃₂_, zero32, half}
 use Rattle.floats.specs.Leaves.{abs, withSign}
 use Rattle.floats.specs.Height.{height}
@@ -29,12 +30,12 @@ use Rattle.game.specs.declared.Side.the-variants.{Home, Away}
 use Rattle.game.specs.declared.SideMapping.{SideMapping}
 use Rattle.game.specs.declared.SideMapping.the-variants.{HomeDefendsLeftGoal, HomeDefendsRightGoal}
 use Rattle.geometry.specs.Geometry.{sideToSign}
-use Rattle.geometry.specs.Turned.{signed, changedBall, exchanged, changedEnds, changedGame, turnedBall, turnedGame}
-use Rattle.positioning.proofs.Turned.{abs-changed, team-changed, sign-changed}
+use Rattle.geometry.specs.Turned.{signed, changedBall, exchanged, changedEnds, changedGame}
+use Rattle.geometry.proofs.Turned.{abs-changed, team-changed, sign-changed}
 use Rattle.ball.specs.Ball.{judgeGoal, pastGoalLine, pastTouchline, inGoal, defenderOf, defendingSide, shotTaken, judgeShot, judgeShootout, playersOf, throwInSide, judgeHalf, judgePlay, isRunning, ballJudgment}
 use Rattle.ball.specs.Turned.{Sized, isZero, isNone, isInPlay, isBetweenHalves, isExcepted}
-use Rattle.ball.specs.declared.BallJudgment.{BallJudgment}
-use Rattle.ball.specs.declared.BallJudgment.the-variants.{NoJudgment, ThrowIn}
+use Rattle.game.specs.declared.BallJudgment.{BallJudgment}
+use Rattle.game.specs.declared.BallJudgment.the-variants.{NoJudgment, ThrowIn}
 use Rattle.ball.specs.declared.GoalJudgment.{GoalJudgment}
 use Rattle.ball.proofs.Sizes.{goalLineEdge, middle-inside}
 
@@ -182,15 +183,7 @@ judgment-changed a b g f ball contact restart judged rested home away n s e =
     (shootout-changed a b (g .«kicking_side») (g .sides) f ball restart rested)
     (λ h. play-changed f contact restart judged home away a b (g .sides) ball n (middle-inside f s) (unless a (isInPlay g) (isBetweenHalves f ball contact) e h))
 
--- the half-turn
-pub judgment-turned : (g : Game) (f : FieldDimensions) (ball : Ball) (contact : MaybeSide) (restart : MaybeRestart) (judged rested : Bool) (home away : ℕ) → Number binary32 (ball .x) → Sized f → isExcepted g f ball contact ≡ false → ballJudgment (turnedGame g) f (turnedBall ball) contact restart judged rested home away ≡ ballJudgment g f ball contact restart judged rested home away
-judgment-turned g f ball contact restart judged rested home away n s e = judgment-changed true true g f ball contact restart judged rested home away n s e
-
 -- ---- the exception
-both : (p q : Bool) → p && q ≡ true → (p ≡ true) × (q ≡ true)
-both true q e = (refl, e)
-both false q e = absurd (subst T (sym e) tt)
-
 untouched : (contact : MaybeSide) → isNone contact ≡ true → contact ≡ NoSide
 untouched NoSide e = refl
 untouched (Of side) e = absurd (subst T (sym e) tt)
@@ -204,9 +197,9 @@ in-play false shootout j k k' e p = absurd (subst T (sym e) tt)
 thrown : (g : Game) (f : FieldDimensions) (ball : Ball) (contact : MaybeSide) (restart : MaybeRestart) (judged rested : Bool) (home away : ℕ) → Number binary32 (ball .x) → Sized f → isExcepted g f ball contact ≡ true → ballJudgment g f ball contact restart judged rested home away ≡ ThrowIn (defendingSide (g .sides) ball)
 unfolding ballJudgment
 thrown g f ball contact restart judged rested home away n s e =
-    let parts = both (isInPlay g) (isBetweenHalves f ball contact) e in
-    let place = both (isZero (ball .x) && pastTouchline f ball) (isNone contact) (parts .1) in
-    let out = both (isZero (ball .x)) (pastTouchline f ball) (place .0) in
+    let parts = both-true (isInPlay g) (isBetweenHalves f ball contact) e in
+    let place = both-true (isZero (ball .x) && pastTouchline f ball) (isNone contact) (parts .1) in
+    let out = both-true (isZero (ball .x)) (pastTouchline f ball) (place .0) in
     let d = defendingSide (g .sides) ball in
     in-play (isRunning g) (isShootout (g .phase)) (judgeShootout (g .«kicking_side») (g .sides) f ball restart rested) (judgePlay d f ball contact restart judged home away) (ThrowIn d) (parts .0)
     (at-touchline f ball (judgeGoal judged restart (opponent d) (playersOf (opponent d) home away)) contact d (not-past f ball n (middle-inside f s) (out .0))
@@ -228,31 +221,32 @@ neg-zero x h = alike-eq (neg x) posZero zero32 posZero (neg-alike x h) (inl zero
     plain : eq posZero posZero ≡ true
     plain = unfold eq in refl
 
--- the exception holds after the turn too
-pub excepted-turned : (g : Game) (f : FieldDimensions) (ball : Ball) (contact : MaybeSide) → Number binary32 (ball .x) → isExcepted g f ball contact ≡ true → isExcepted (turnedGame g) f (turnedBall ball) contact ≡ true
-excepted-turned g f ball contact n e =
-    let parts = both (isInPlay g) (isBetweenHalves f ball contact) e in
-    let place = both (isZero (ball .x) && pastTouchline f ball) (isNone contact) (parts .1) in
-    let out = both (isZero (ball .x)) (pastTouchline f ball) (place .0) in
-    simp (parts .0, neg-zero (ball .x) (zero-alike (ball .x) n (out .0)), past-touchline-changed true true f ball, out .1, place .1)
+-- the exception holds after the change too
+pub excepted-changed : (b : Bool) (g : Game) (f : FieldDimensions) (ball : Ball) (contact : MaybeSide) → Number binary32 (ball .x) → isExcepted g f ball contact ≡ true → isExcepted (changedGame true g) f (changedBall true b ball) contact ≡ true
+excepted-changed b g f ball contact n e =
+    let parts = both-true (isInPlay g) (isBetweenHalves f ball contact) e in
+    let place = both-true (isZero (ball .x) && pastTouchline f ball) (isNone contact) (parts .1) in
+    let out = both-true (isZero (ball .x)) (pastTouchline f ball) (place .0) in
+    simp (parts .0, neg-zero (ball .x) (zero-alike (ball .x) n (out .0)), past-touchline-changed true b f ball, out .1, place .1)
 
--- where the turn changes the judgment: both are throw-ins, for one side and for the other
-pub judgment-excepted : (g : Game) (f : FieldDimensions) (ball : Ball) (contact : MaybeSide) (restart : MaybeRestart) (judged rested : Bool) (home away : ℕ) → Number binary32 (ball .x) → Sized f → isExcepted g f ball contact ≡ true → (ballJudgment g f ball contact restart judged rested home away ≡ ThrowIn (defendingSide (g .sides) ball)) × (ballJudgment (turnedGame g) f (turnedBall ball) contact restart judged rested home away ≡ ThrowIn (opponent (defendingSide (g .sides) ball)))
-judgment-excepted g f ball contact restart judged rested home away n s e =
-    let parts = both (isInPlay g) (isBetweenHalves f ball contact) e in
-    let place = both (isZero (ball .x) && pastTouchline f ball) (isNone contact) (parts .1) in
-    let zero = zero-alike (ball .x) n (both (isZero (ball .x)) (pastTouchline f ball) (place .0) .0) in
-    let side : defendingSide (exchanged (g .sides)) (turnedBall ball) ≡ opponent (defendingSide (g .sides) ball) = ap (defenderOf (exchanged (g .sides))) (not-left (neg (ball .x)) (neg-alike (ball .x) zero) ∙ sym (not-left (ball .x) zero)) ∙ same-half (g .sides) (lt zero32 (ball .x)) in (
+-- where the change of x changes the judgment: both are throw-ins, for one side and for the other
+pub judgment-excepted : (b : Bool) (g : Game) (f : FieldDimensions) (ball : Ball) (contact : MaybeSide) (restart : MaybeRestart) (judged rested : Bool) (home away : ℕ) → Number binary32 (ball .x) → Sized f → isExcepted g f ball contact ≡ true → (ballJudgment g f ball contact restart judged rested home away ≡ ThrowIn (defendingSide (g .sides) ball)) × (ballJudgment (changedGame true g) f (changedBall true b ball) contact restart judged rested home away ≡ ThrowIn (opponent (defendingSide (g .sides) ball)))
+judgment-excepted b g f ball contact restart judged rested home away n s e =
+    let parts = both-true (isInPlay g) (isBetweenHalves f ball contact) e in
+    let place = both-true (isZero (ball .x) && pastTouchline f ball) (isNone contact) (parts .1) in
+    let zero = zero-alike (ball .x) n (both-true (isZero (ball .x)) (pastTouchline f ball) (place .0) .0) in
+    let side : defendingSide (exchanged (g .sides)) (changedBall true b ball) ≡ opponent (defendingSide (g .sides) ball) = ap (defenderOf (exchanged (g .sides))) (not-left (neg (ball .x)) (neg-alike (ball .x) zero) ∙ sym (not-left (ball .x) zero)) ∙ same-half (g .sides) (lt zero32 (ball .x)) in (
       thrown g f ball contact restart judged rested home away n s e,
-      thrown (turnedGame g) f (turnedBall ball) contact restart judged rested home away (neg-number binary32 (ball .x) n) s (excepted-turned g f ball contact n e) ∙ ap ThrowIn side,
+      thrown (changedGame true g) f (changedBall true b ball) contact restart judged rested home away (neg-number binary32 (ball .x) n) s (excepted-changed b g f ball contact n e) ∙ ap ThrowIn side,
     )
 
 two-sides : (d : Side) → ThrowIn d ≡ ThrowIn (opponent d) → ⊥
 two-sides Home e = let z : _≡_ {A = ℕ} 0 1 = cc in omega arith
 two-sides Away e = let z : _≡_ {A = ℕ} 0 1 = cc in omega arith
 
--- so that they are not equal: with `judgment-turned`, the judgments are equal if and only if it is not the exception
-pub judgment-differs : (g : Game) (f : FieldDimensions) (ball : Ball) (contact : MaybeSide) (restart : MaybeRestart) (judged rested : Bool) (home away : ℕ) → Number binary32 (ball .x) → Sized f → isExcepted g f ball contact ≡ true → ballJudgment (turnedGame g) f (turnedBall ball) contact restart judged rested home away ≡ ballJudgment g f ball contact restart judged rested home away → ⊥
-judgment-differs g f ball contact restart judged rested home away n s e same =
-    let two = judgment-excepted g f ball contact restart judged rested home away n s e in
+-- so that they are not equal: with `judgment-changed`, the judgments are equal if and only if it is not the exception
+pub judgment-differs : (a b : Bool) (g : Game) (f : FieldDimensions) (ball : Ball) (contact : MaybeSide) (restart : MaybeRestart) (judged rested : Bool) (home away : ℕ) → Number binary32 (ball .x) → Sized f → a && isExcepted g f ball contact ≡ true → ballJudgment (changedGame a g) f (changedBall a b ball) contact restart judged rested home away ≡ ballJudgment g f ball contact restart judged rested home away → ⊥
+judgment-differs true b g f ball contact restart judged rested home away n s e same =
+    let two = judgment-excepted b g f ball contact restart judged rested home away n s e in
     two-sides (defendingSide (g .sides) ball) (sym (two .0) ∙ sym same ∙ two .1)
+judgment-differs false b g f ball contact restart judged rested home away n s e same = subst T (sym e) tt

@@ -23,8 +23,8 @@ use Rattle.game.specs.declared.Side.the-variants.{Home, Away}
 use Rattle.game.specs.declared.SideMapping.{SideMapping}
 use Rattle.game.specs.declared.SideMapping.the-variants.{HomeDefendsLeftGoal, HomeDefendsRightGoal}
 use Rattle.geometry.specs.Geometry.{sideToSign}
-use Rattle.ball.specs.declared.BallJudgment.{BallJudgment}
-use Rattle.ball.specs.declared.BallJudgment.the-variants.{NoJudgment, Goal, GoalKick, CornerKick, ThrowIn, EndOfPenaltyShot}
+use Rattle.game.specs.declared.BallJudgment.{BallJudgment}
+use Rattle.game.specs.declared.BallJudgment.the-variants.{NoJudgment, Goal, GoalKick, CornerKick, ThrowIn, EndOfPenaltyShot}
 use Rattle.ball.specs.declared.GoalJudgment.{GoalJudgment}
 use Rattle.ball.specs.declared.GoalJudgment.the-variants.{ValidGoal, Instead}
 

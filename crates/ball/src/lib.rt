@@ -1,7 +1,9 @@
 // What follows when the ball leaves the field.
 ghost use mathlib.Core.Path.{_≡_};
+ghost use Rattle.game.specs.Game.{opponent};
 ghost use Rattle.ball.specs.Ball as Spec;
 use game::Ball;
+use game::BallJudgment;
 use game::FieldDimensions;
 use game::Game;
 use game::MaybeNumber;
@@ -11,16 +13,6 @@ use game::Restart;
 use game::RestartKind;
 use game::Side;
 use game::SideMapping;
-
-// What is called, for a side where it is for one.
-pub enum BallJudgment {
-    NoJudgment,
-    Goal(Side),
-    GoalKick(Side),
-    CornerKick(Side),
-    ThrowIn(Side),
-    EndOfPenaltyShot,
-}
 
 // Whether a goal counts, or what is called in its stead.
 pub enum GoalJudgment {
@@ -48,47 +40,9 @@ fn is_penalty_shot(kind: RestartKind) -> bool
     ensures { λ r. ⌜ r ≡ Spec.isPenaltyShot kind ⌝ }
 {
     match kind {
-        RestartKind::KickOff => false,
-        RestartKind::Indirect => false,
-        RestartKind::Direct => false,
         RestartKind::PenaltyShot => true,
+        _ => false,
     }
-}
-
-// A ball that a team puts into its own goal directly from its restart.
-fn judge_own_goal(kind: RestartKind, scoring_side: Side) -> GoalJudgment
-    ensures { λ r. ⌜ r ≡ Spec.judgeOwnGoal kind «scoring_side» ⌝ }
-{
-    let penalty_shot = is_penalty_shot(kind);
-    if penalty_shot {
-        return GoalJudgment::ValidGoal;
-    }
-    GoalJudgment::Instead(BallJudgment::CornerKick(scoring_side))
-}
-
-// A goal while a restart is in effect.
-fn judge_restart_goal(
-    restart: Restart,
-    scoring_side: Side,
-    players_of_scoring_side: usize,
-) -> GoalJudgment
-    ensures { λ r. ⌜ r ≡ Spec.judgeRestartGoal restart «scoring_side» «players_of_scoring_side» ⌝ }
-{
-    let kind = restart.kind;
-    let restart_side = restart.side;
-    let defending_side = game::opponent(scoring_side);
-    let own_goal = game::same_side(restart_side, defending_side);
-    let valid = may_score(restart, players_of_scoring_side);
-    if restart.other_touch {
-        return GoalJudgment::ValidGoal;
-    }
-    if own_goal {
-        return judge_own_goal(kind, scoring_side);
-    }
-    if valid {
-        return GoalJudgment::ValidGoal;
-    }
-    GoalJudgment::Instead(BallJudgment::GoalKick(defending_side))
 }
 
 // Whether a goal for a side is valid, given the restart that is in effect and whether invalid goals are judged at all.
@@ -100,15 +54,30 @@ pub fn judge_goal(
 ) -> GoalJudgment
     ensures { λ r. ⌜ r ≡ Spec.judgeGoal «invalid_goals_judged» restart «scoring_side» «players_of_scoring_side» ⌝ }
 {
-    if invalid_goals_judged {
-        return match restart {
-            MaybeRestart::NoRestart => GoalJudgment::ValidGoal,
-            MaybeRestart::InEffect(r) => {
-                judge_restart_goal(r, scoring_side, players_of_scoring_side)
-            }
-        };
+    if !invalid_goals_judged {
+        return GoalJudgment::ValidGoal;
     }
-    GoalJudgment::ValidGoal
+    match restart {
+        MaybeRestart::NoRestart => GoalJudgment::ValidGoal,
+        MaybeRestart::InEffect(r) => {
+            let kind = r.kind;
+            let restart_side = r.side;
+            if r.other_touch {
+                return GoalJudgment::ValidGoal;
+            }
+            let defending_side = game::opponent(scoring_side);
+            if game::same_side(restart_side, defending_side) {
+                if is_penalty_shot(kind) {
+                    return GoalJudgment::ValidGoal;
+                }
+                return GoalJudgment::Instead(BallJudgment::CornerKick(scoring_side));
+            }
+            if may_score(r, players_of_scoring_side) {
+                return GoalJudgment::ValidGoal;
+            }
+            GoalJudgment::Instead(BallJudgment::GoalKick(defending_side))
+        }
+    }
 }
 
 // Whether the whole ball is past a goal line.
@@ -146,70 +115,25 @@ fn defender_of(sides: SideMapping, left: bool) -> Side
     }
 }
 
-// The number of players of a side on the field.
-fn players_of(side: Side, home_players: usize, away_players: usize) -> usize
-    ensures { λ r. ⌜ r ≡ Spec.playersOf side «home_players» «away_players» ⌝ }
-{
-    match side {
-        Side::Home => home_players,
-        Side::Away => away_players,
-    }
-}
-
-// Whether there is a kicker.
-fn has_kicker(kicker: MaybeNumber) -> bool
-    ensures { λ r. ⌜ r ≡ Spec.hasKicker kicker ⌝ }
-{
-    match kicker {
-        MaybeNumber::NoNumber => false,
-        MaybeNumber::Number(_) => true,
-    }
-}
-
-// Whether the restart is a penalty shot that was taken.
-fn is_taken_shot(restart: Restart) -> bool
-    ensures { λ r. ⌜ r ≡ Spec.isTakenShot restart ⌝ }
-{
-    let kind = restart.kind;
-    let kicker = restart.kicker;
-    let penalty_shot = is_penalty_shot(kind);
-    let kicked = has_kicker(kicker);
-    penalty_shot & kicked
-}
-
 // Whether there is a penalty shot that was taken.
 fn is_shot_taken(restart: MaybeRestart) -> bool
     ensures { λ r. ⌜ r ≡ Spec.shotTaken restart ⌝ }
 {
     match restart {
         MaybeRestart::NoRestart => false,
-        MaybeRestart::InEffect(r) => is_taken_shot(r),
+        MaybeRestart::InEffect(r) => {
+            let kind = r.kind;
+            let kicker = r.kicker;
+            let penalty_shot = is_penalty_shot(kind);
+            match kicker {
+                MaybeNumber::NoNumber => false,
+                MaybeNumber::Number(_) => penalty_shot,
+            }
+        }
     }
 }
 
-// The judgment of a penalty shot by the team with this sign: a goal, or its end once the ball is out or has come to rest.
-fn judge_shot(
-    kicking_side: Side,
-    sign: f32,
-    field: FieldDimensions,
-    ball: Ball,
-    over: bool,
-) -> BallJudgment
-    ensures { λ r. ⌜ r ≡ Spec.judgeShot «kicking_side» sign field ball over ⌝ }
-{
-    let past_goal_line = is_past_goal_line(field, ball);
-    let past_touchline = is_past_touchline(field, ball);
-    let in_goal = is_in_goal(field, ball);
-    if past_goal_line & (sign * ball.x > 0.0) & in_goal {
-        return BallJudgment::Goal(kicking_side);
-    }
-    if past_goal_line | past_touchline | over {
-        return BallJudgment::EndOfPenaltyShot;
-    }
-    BallJudgment::NoJudgment
-}
-
-// The judgment in a penalty shoot-out, where there is a kicking side.
+// The judgment in a penalty shoot-out, where there is a kicking side: a goal, or the end of the shot once the ball is out or has come to rest.
 fn judge_shootout(
     kicking_side: MaybeSide,
     sides: SideMapping,
@@ -223,101 +147,64 @@ fn judge_shootout(
     match kicking_side {
         MaybeSide::NoSide => BallJudgment::NoJudgment,
         MaybeSide::Of(side) => {
-            let sign = rules::side_to_sign(side, sides);
+            let sign = geometry::side_to_sign(side, sides);
+            let past_goal_line = is_past_goal_line(field, ball);
+            let past_touchline = is_past_touchline(field, ball);
+            let in_goal = is_in_goal(field, ball);
             let taken = is_shot_taken(restart);
-            judge_shot(side, sign, field, ball, taken & ball_rested)
+            if past_goal_line & (sign * ball.x > 0.0) & in_goal {
+                return BallJudgment::Goal(side);
+            }
+            if past_goal_line | past_touchline | (taken & ball_rested) {
+                return BallJudgment::EndOfPenaltyShot;
+            }
+            BallJudgment::NoJudgment
         }
     }
 }
 
-// A goal, or what is called in its stead.
-fn goal_or_instead(judgment: GoalJudgment, scoring_side: Side) -> BallJudgment
-    ensures { λ r. ⌜ r ≡ Spec.goalOrInstead judgment «scoring_side» ⌝ }
-{
-    match judgment {
-        GoalJudgment::ValidGoal => BallJudgment::Goal(scoring_side),
-        GoalJudgment::Instead(j) => j,
-    }
-}
-
-// A ball past the goal line beside the goal: a corner kick if the defenders touched it last, else a goal kick.
-fn goal_line_restart(last_contact: MaybeSide, defending_side: Side) -> BallJudgment
-    ensures { λ r. ⌜ r ≡ Spec.goalLineRestart «last_contact» «defending_side» ⌝ }
-{
-    let own = game::is_side(last_contact, defending_side);
-    let attacking_side = game::opponent(defending_side);
-    if own {
-        return BallJudgment::CornerKick(attacking_side);
-    }
-    BallJudgment::GoalKick(defending_side)
-}
-
-// The side that throws in: the opponents of the side that touched the ball last, or the defending side if none did.
-fn throw_in_side(last_contact: MaybeSide, defending_side: Side) -> Side
-    ensures { λ r. ⌜ r ≡ Spec.throwInSide «last_contact» «defending_side» ⌝ }
-{
-    match last_contact {
-        MaybeSide::NoSide => defending_side,
-        MaybeSide::Of(side) => game::opponent(side),
-    }
-}
-
-// The judgment of a ball that is past the goal line.
-fn judge_goal_line(
-    in_goal: bool,
-    goal: GoalJudgment,
-    last_contact: MaybeSide,
-    defending_side: Side,
-) -> BallJudgment
-    ensures { λ r. ⌜ r ≡ Spec.judgeGoalLine «in_goal» goal «last_contact» «defending_side» ⌝ }
-{
-    let attacking_side = game::opponent(defending_side);
-    if in_goal {
-        return goal_or_instead(goal, attacking_side);
-    }
-    goal_line_restart(last_contact, defending_side)
-}
-
-// The judgment where the side is known that defends the half in which the ball is.
-fn judge_half(
-    field: FieldDimensions,
-    ball: Ball,
-    goal: GoalJudgment,
-    last_contact: MaybeSide,
-    defending_side: Side,
-) -> BallJudgment
-    ensures { λ r. ⌜ r ≡ Spec.judgeHalf field ball goal «last_contact» «defending_side» ⌝ }
-{
-    let past_goal_line = is_past_goal_line(field, ball);
-    let past_touchline = is_past_touchline(field, ball);
-    let in_goal = is_in_goal(field, ball);
-    if past_goal_line {
-        return judge_goal_line(in_goal, goal, last_contact, defending_side);
-    }
-    if past_touchline {
-        return BallJudgment::ThrowIn(throw_in_side(last_contact, defending_side));
-    }
-    BallJudgment::NoJudgment
-}
-
-// The judgment outside a penalty shoot-out.
+// The judgment outside a penalty shoot-out, where the side is known that defends the half in which the ball is.
 fn judge_play(
-    sides: SideMapping,
+    defending_side: Side,
+    attacking_players: usize,
     field: FieldDimensions,
     ball: Ball,
     last_contact: MaybeSide,
     restart: MaybeRestart,
     invalid_goals_judged: bool,
-    home_players: usize,
-    away_players: usize,
 ) -> BallJudgment
-    ensures { λ r. ⌜ r ≡ Spec.judgePlay (Spec.defendingSide sides ball) field ball «last_contact» restart «invalid_goals_judged» «home_players» «away_players» ⌝ }
+    ensures { λ r. ⌜ r ≡ Spec.judgeHalf field ball (Spec.judgeGoal «invalid_goals_judged» restart (opponent «defending_side») «attacking_players») «last_contact» «defending_side» ⌝ }
 {
-    let defending_side = defender_of(sides, ball.x > 0.0);
     let attacking_side = game::opponent(defending_side);
-    let players = players_of(attacking_side, home_players, away_players);
-    let goal = judge_goal(invalid_goals_judged, restart, attacking_side, players);
-    judge_half(field, ball, goal, last_contact, defending_side)
+    let past_goal_line = is_past_goal_line(field, ball);
+    let past_touchline = is_past_touchline(field, ball);
+    let in_goal = is_in_goal(field, ball);
+    let own = game::is_side(last_contact, defending_side);
+    if past_goal_line {
+        if in_goal {
+            let goal = judge_goal(
+                invalid_goals_judged,
+                restart,
+                attacking_side,
+                attacking_players,
+            );
+            return match goal {
+                GoalJudgment::ValidGoal => BallJudgment::Goal(attacking_side),
+                GoalJudgment::Instead(judgment) => judgment,
+            };
+        }
+        if own {
+            return BallJudgment::CornerKick(attacking_side);
+        }
+        return BallJudgment::GoalKick(defending_side);
+    }
+    if past_touchline {
+        return match last_contact {
+            MaybeSide::NoSide => BallJudgment::ThrowIn(defending_side),
+            MaybeSide::Of(side) => BallJudgment::ThrowIn(game::opponent(side)),
+        };
+    }
+    BallJudgment::NoJudgment
 }
 
 // What is called when the ball has left the field, or a penalty shot is over. `home_players` and `away_players` count the players of
@@ -345,16 +232,27 @@ pub fn check_ball_out(
         if shootout {
             return judge_shootout(kicking_side, sides, field, ball, restart, ball_rested);
         }
-        return judge_play(
-            sides,
-            field,
-            ball,
-            last_contact,
-            restart,
-            invalid_goals_judged,
-            home_players,
-            away_players,
-        );
+        let defending_side = defender_of(sides, ball.x > 0.0);
+        return match defending_side {
+            Side::Home => judge_play(
+                Side::Home,
+                away_players,
+                field,
+                ball,
+                last_contact,
+                restart,
+                invalid_goals_judged,
+            ),
+            Side::Away => judge_play(
+                Side::Away,
+                home_players,
+                field,
+                ball,
+                last_contact,
+                restart,
+                invalid_goals_judged,
+            ),
+        };
     }
     BallJudgment::NoJudgment
 }

@@ -10,13 +10,15 @@ use lib.ListN.{length, drop}
 use lib.Ieee.{Float, nan, inf, fin, binary32, neg, add, sub, mul, lt, le, ofInt}
 use Rattle.lists.specs.Gather.{flatTo}
 use Rattle.lists.specs.Put.{fronted}
+use Rattle.lists.specs.Refusals.{firstRefusal}
 use Rattle.floats.specs.Leaves.{clamp}
 use Rattle.floats.specs.Values.{Finite}
 use Rattle.floats.specs.Arithmetic.{zero32}
-use Rattle.floats.specs.Candidates.{down-by, up-by, placesAt}
-use Rattle.floats.proofs.Laws.Candidates.{finite-within, down-out, up-out}
-use Rattle.floats.proofs.Laws.Places.{break-drops-nothing, all-by-8192, few-places}
-use Rattle.candidates.specs.Candidates.{crossed, middle, candidatesTo, candidatesOf, unfit, tooLong, firstRefusal, refuse, refusalOf, answerOf, walks}
+use Rattle.spacing.specs.Spacing.{down-by, up-by, placesAt}
+use Rattle.floats.proofs.Laws.Within.{finite-within}
+use Rattle.spacing.proofs.Directions.{down-out, up-out}
+use Rattle.spacing.proofs.Places.{break-drops-nothing, all-by-8192, few-places}
+use Rattle.candidates.specs.Candidates.{crossed, middle, candidatesTo, candidatesOf, unfit, tooLong, conditions, refusalOf, answerOf, walks}
 use Rattle.candidates.proofs.CandidatesList.{Held, Walkable, walkable, walks-walkable, Kind, only-middle, only-start, walk, kind, list-middle, list-by, list-walk, answer-given, answer-refused}
 
 -- ---- refusals, for any floats
@@ -115,8 +117,8 @@ module _ (start min max step : Float) (f : Held start min max step) where
       go true u = let z : _≡_ {A = ℕ} 5 6 = sym (refused-5 u) ∙ e in omega arith
         where
           refused-5 : unfit start min max step ≡ true → refusalOf start min max step len ≡ 5
-          refused-5 u = unfold refusalOf in ap (λ (b : Bool). firstRefusal (refuse 5 b ∷ refuse 6 (tooLong start min max step len) ∷ [])) u
+          refused-5 u = unfold refusalOf in ap (λ (b : Bool). firstRefusal (conditions b (tooLong start min max step len))) u
       go false u = let z : _≡_ {A = ℕ} 0 6 = sym (accepted u) ∙ e in omega arith
         where
           accepted : unfit start min max step ≡ false → refusalOf start min max step len ≡ 0
-          accepted u = unfold refusalOf in ap₂ (λ (a b : Bool). firstRefusal (refuse 5 a ∷ refuse 6 b ∷ [])) u (le-ltb len (length (candidatesOf start min max step)) (le-trans (few-candidates u) (le-trans (omega arith) l)))
+          accepted u = unfold refusalOf in ap₂ (λ (a b : Bool). firstRefusal (conditions a b)) u (le-ltb len (length (candidatesOf start min max step)) (le-trans (few-candidates u) (le-trans (omega arith) l)))

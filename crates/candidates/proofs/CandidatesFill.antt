@@ -13,7 +13,7 @@ use Rattle.lists.specs.Gather.{flatTo, onlyIf}
 use Rattle.lists.specs.Put.{countIf, putIf, fronted}
 use Rattle.lists.proofs.Part.{part-back}
 use Rattle.lists.proofs.Put.{put-one}
-use Rattle.floats.specs.Candidates.{down-by, up-by, placesAt}
+use Rattle.spacing.specs.Spacing.{down-by, up-by, placesAt}
 
 -- ---- room
 -- a count does not fall

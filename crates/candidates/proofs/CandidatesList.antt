@@ -5,46 +5,24 @@ use mathlib.Core.List.{List, [], _∷_}
 use Prim.Native.Nat.{ℕ, suc, _+_, _≤_, _<_, zero-le}
 use native.Mathlib.Nat.{le-trans, le-of-eq}
 use native.Mathlib.Numerals.{add-one}
-use native.Mathlib.Omega.{arith}
 use borrow.Author.Tests.{not-true, not-false, ltb-false, eq-eqb, ne-eqb}
 use lib.Dec.{T, ltb}
 use lib.ListN.{length}
-use lib.Ieee.{Float, binary32, neg, isNan, fits, lt, le, ofBits}
-use lib.Ieee.Bits.{ofBits-fits}
+use lib.Ieee.{Float, binary32, neg, isNan, fits, lt, le}
 use Rattle.lists.specs.Gather.{flatTo}
 use Rattle.floats.specs.Leaves.{clamp}
-use Rattle.floats.specs.Values.{Number}
-use Rattle.floats.specs.Arithmetic.{zero32}
-use Rattle.floats.specs.Candidates.{Within, Step, sixtyFour, sixtyFourth, placesAt}
-use Rattle.floats.proofs.Laws.Order.{le-total-f, neg-number}
-use Rattle.floats.proofs.Laws.Candidates.{clamp-within}
-use Rattle.candidates.specs.Candidates.{crossed, middle, candidatesTo, candidatesOf, beyond, tooFine, unfit, tooLong, firstRefusal, refuse, refusalOf, answerOf, firstCandidate, walks, reaches, reached, turnsOf, walked, halfTurnsOf, halfTurn}
-use Rattle.candidates.proofs.CandidatesWalk.{neither, both, count-le, all-reached, half-turns}
-
--- ---- bools
--- a conjunction that fails at its second part
-at-second : (a b : Bool) → (a && b) ≡ false → a ≡ true → b ≡ false
-at-second a b e t = sym (ap (λ (x : Bool). x && b) t) ∙ e
-
--- as the float records have it
-is-false : (b : Bool) → b ≡ false → T (not b)
-is-false b e = subst (λ (x : Bool). T (not x)) (sym e) tt
-
--- ---- the constants are numbers
-plain : (b : ℕ) → T (not (isNan (ofBits binary32 b))) → Number binary32 (ofBits binary32 b)
-plain b n = record { fit = ofBits-fits binary32 b; no-nan = n }
-
-sixtyFour-number : Number binary32 sixtyFour
-unfolding ofBits isNan
-sixtyFour-number = plain 0x4280_0000 tt
-
-sixtyFourth-number : Number binary32 sixtyFourth
-unfolding ofBits isNan
-sixtyFourth-number = plain 0x3c80_0000 tt
-
-zero-number : Number binary32 zero32
-unfolding ofBits isNan
-zero-number = plain 0 tt
+use Rattle.floats.specs.Values.{Number, Within}
+use Rattle.floats.specs.Arithmetic.{zero32, sixtyFour, sixtyFourth}
+use Rattle.spacing.specs.Spacing.{Step, placesAt}
+use Rattle.floats.proofs.Laws.Order.{le-total-f, neg-number, number}
+use Rattle.floats.proofs.Laws.Within.{clamp-within}
+use Rattle.candidates.specs.Candidates.{crossed, middle, candidatesTo, candidatesOf, tooFar, tooFine, unfit, tooLong, conditions, refusalOf, answerOf, firstCandidate, walks, hasPlace, turnsFrom, turnsOf, walked, triesOf, triedAt}
+use Rattle.lists.specs.Refusals.{firstRefusal}
+use Rattle.lists.proofs.Bools.{neither, both-true, right-false}
+use Rattle.lists.proofs.Counting.{count-le}
+use Rattle.lists.proofs.Refusals.{all-hold}
+use Rattle.candidates.proofs.CandidatesWalk.{turns-do, tries-are-turns}
+use Rattle.floats.proofs.Laws.Constants.{zero-number, sixtyFour-number, sixtyFourth-number}
 
 -- ---- the answer, for any floats
 -- what is not refused is given
@@ -62,8 +40,8 @@ answer-refused start min max step len e = ap (λ (b : Bool). cond b (candidatesO
 at-most : (x y : Float) → Number binary32 x → Number binary32 y → lt y x ≡ false → le x y ≡ true
 at-most x y p q e = not-false (le x y) (sym (le-total-f binary32 x y p q) ∙ e)
 
--- not beyond 64 is within 64
-within : (v : Float) → Number binary32 v → beyond v ≡ false → Within v
+-- not too far is within 64
+within : (v : Float) → Number binary32 v → tooFar v ≡ false → Within v
 within v n e =
     let o = neither (lt v (neg sixtyFour)) (lt sixtyFour v) e in
     record { number = n; lowest = at-most (neg sixtyFour) v (neg-number binary32 sixtyFour sixtyFour-number) n (o .0); highest = at-most v sixtyFour n sixtyFour-number (o .1) }
@@ -72,7 +50,7 @@ within v n e =
 coarse : (v : Float) → Number binary32 v → tooFine v ≡ false → le v zero32 ≡ false → Step v
 coarse v n f z =
     let up : lt zero32 v ≡ true = le-total-f binary32 v zero32 n zero-number ∙ ap not z in
-    record { number = n; lowest = at-most sixtyFourth v sixtyFourth-number n (at-second (lt zero32 v) (lt v sixtyFourth) f up) }
+    record { number = n; lowest = at-most sixtyFourth v sixtyFourth-number n (right-false (lt zero32 v) (lt v sixtyFourth) up f) }
 
 -- what the laws about places ask, for a walk
 pub record Walkable (start min max step : Float) : Type 0 where
@@ -88,8 +66,8 @@ pub few-turns : (start min max step : Float) → turnsOf start min max step ≤ 
 unfolding turnsOf
 few-turns start min max step = go (walks start min max step)
   where
-    go : (b : Bool) → cond b (reached (firstCandidate start min max) min max step) 0 ≤ 8192
-    go true = count-le (reaches (firstCandidate start min max) min max step) 8192
+    go : (b : Bool) → cond b (turnsFrom (firstCandidate start min max) min max step) 0 ≤ 8192
+    go true = count-le 8192 (hasPlace (firstCandidate start min max) min max step)
     go false = zero-le
 
 -- each float fits binary32
@@ -126,32 +104,32 @@ module _ (start min max step : Float) (f : Held start min max step) where
       numbers : (isNan min ≡ false) × (isNan max ≡ false)
       numbers = neither (isNan min) (isNan max) (bounds .0)
 
-      all : (isNan start || beyond min || beyond max || isNan step || tooFine step) ≡ false
-      all = unfold unfit in at-second (not (crossed min max)) (isNan start || beyond min || beyond max || isNan step || tooFine step) u (ap not c)
+      all : (isNan start || tooFar min || tooFar max || isNan step || tooFine step) ≡ false
+      all = unfold unfit in right-false (not (crossed min max)) (isNan start || tooFar min || tooFar max || isNan step || tooFine step) (ap not c) u
 
-      four : (isNan start || beyond min || beyond max || isNan step ≡ false) × (tooFine step ≡ false)
-      four = neither (isNan start || beyond min || beyond max || isNan step) (tooFine step) all
+      four : (isNan start || tooFar min || tooFar max || isNan step ≡ false) × (tooFine step ≡ false)
+      four = neither (isNan start || tooFar min || tooFar max || isNan step) (tooFine step) all
 
-      three : (isNan start || beyond min || beyond max ≡ false) × (isNan step ≡ false)
-      three = neither (isNan start || beyond min || beyond max) (isNan step) (four .0)
+      three : (isNan start || tooFar min || tooFar max ≡ false) × (isNan step ≡ false)
+      three = neither (isNan start || tooFar min || tooFar max) (isNan step) (four .0)
 
-      two : (isNan start || beyond min ≡ false) × (beyond max ≡ false)
-      two = neither (isNan start || beyond min) (beyond max) (three .0)
+      two : (isNan start || tooFar min ≡ false) × (tooFar max ≡ false)
+      two = neither (isNan start || tooFar min) (tooFar max) (three .0)
 
-      one : (isNan start ≡ false) × (beyond min ≡ false)
-      one = neither (isNan start) (beyond min) (two .0)
+      one : (isNan start ≡ false) × (tooFar min ≡ false)
+      one = neither (isNan start) (tooFar min) (two .0)
 
       start-number : Number binary32 start
-      start-number = record { fit = f .fits-start; no-nan = is-false (isNan start) (one .0) }
+      start-number = number binary32 start (f .fits-start) (one .0)
 
       min-number : Number binary32 min
-      min-number = record { fit = f .fits-min; no-nan = is-false (isNan min) (numbers .0) }
+      min-number = number binary32 min (f .fits-min) (numbers .0)
 
       max-number : Number binary32 max
-      max-number = record { fit = f .fits-max; no-nan = is-false (isNan max) (numbers .1) }
+      max-number = number binary32 max (f .fits-max) (numbers .1)
 
       step-number : Number binary32 step
-      step-number = record { fit = f .fits-step; no-nan = is-false (isNan step) (three .1) }
+      step-number = number binary32 step (f .fits-step) (three .1)
 
       low : Within min
       low = within min min-number (one .1)
@@ -159,12 +137,17 @@ module _ (start min max step : Float) (f : Held start min max step) where
       high : Within max
       high = within max max-number (two .1)
 
+  -- whether it walks, by what the code has in hand
+  pub walks-told : (a b w : Bool) → a ≡ crossed min max → b ≡ unfit start min max step → (not a && not b && not (le step zero32)) ≡ w → walks start min max step ≡ w
+  unfolding walks
+  walks-told a b w ea eb t = sym (ap₂ (λ (x y : Bool). not x && not y && not (le step zero32)) ea eb) ∙ t
+
   -- where it walks, the laws' conditions hold
   pub walks-walkable : walks start min max step ≡ true → Walkable start min max step
   unfolding walks
   walks-walkable e =
-      let o = both (not (crossed min max) && not (unfit start min max step)) (not (le step zero32)) e in
-      let p = both (not (crossed min max)) (not (unfit start min max step)) (o .0) in
+      let o = both-true (not (crossed min max) && not (unfit start min max step)) (not (le step zero32)) e in
+      let p = both-true (not (crossed min max)) (not (unfit start min max step)) (o .0) in
       walkable (not-true (crossed min max) (p .0)) (not-true (unfit start min max step) (p .1)) (not-true (le step zero32) (o .1))
 
   -- ---- the three kinds of list
@@ -206,9 +189,9 @@ module _ (start min max step : Float) (f : Held start min max step) where
   first-clamped c = ap (λ (b : Bool). cond b (middle min max) (clamp start min max)) c
 
   -- its turns, by whether it walks
-  turns-by : (b : Bool) → walks start min max step ≡ b → turnsOf start min max step ≡ cond b (reached (firstCandidate start min max) min max step) 0
+  turns-by : (b : Bool) → walks start min max step ≡ b → turnsOf start min max step ≡ cond b (turnsFrom (firstCandidate start min max) min max step) 0
   unfolding turnsOf
-  turns-by b e = ap (λ (a : Bool). cond a (reached (firstCandidate start min max) min max step) 0) e
+  turns-by b e = ap (λ (a : Bool). cond a (turnsFrom (firstCandidate start min max) min max step) 0) e
 
   -- without a walk there is only the first
   pub walked-none : walks start min max step ≡ false → walked start min max step ≡ []
@@ -220,13 +203,13 @@ module _ (start min max step : Float) (f : Held start min max step) where
   walked-all e =
       let w = walks-walkable e in
       ap (λ (m : ℕ). flatTo m (placesAt (firstCandidate start min max) min max step)) (turns-by true e)
-      ∙ all-reached (firstCandidate start min max) min max step (subst Within (sym (first-clamped (w .ordered))) (w .first)) (w .low) (w .high) (w .stride)
+      ∙ turns-do (firstCandidate start min max) min max step (subst Within (sym (first-clamped (w .ordered))) (w .first)) (w .low) (w .high) (w .stride)
 
   -- a walk's list after its first candidate, in the function's words
-  pub walk-told : (first : Float) (turns count : ℕ) → walks start min max step ≡ true → first ≡ firstCandidate start min max → turns ≡ reached first min max step → count ≡ length (flatTo 8192 (placesAt first min max step))
+  pub walk-told : (first : Float) (turns count : ℕ) → walks start min max step ≡ true → first ≡ firstCandidate start min max → turns ≡ turnsFrom first min max step → count ≡ length (flatTo 8192 (placesAt first min max step))
       → (turns ≡ turnsOf start min max step) × (count ≡ length (walked start min max step))
   walk-told first turns count e f t c = (
-    t ∙ ap (λ (v : Float). reached v min max step) f ∙ sym (turns-by true e),
+    t ∙ ap (λ (v : Float). turnsFrom v min max step) f ∙ sym (turns-by true e),
     c ∙ ap (λ (v : Float). length (flatTo 8192 (placesAt v min max step))) f ∙ ap length (sym (walked-all e)),
   )
 
@@ -256,28 +239,25 @@ module _ (start min max step : Float) (f : Held start min max step) where
           ∙ ap (λ (l : List Float). firstCandidate start min max ∷ l) (sym (walked-all (unfold walks in ap₂ (λ (x y : Bool). not x && not (unfit start min max step) && not y) (w .ordered) (w .away) ∙ ap (λ (x : Bool). not x && true) u)))
 
   -- and with one place at a time
-  pub candidates-by-half-turns : unfit start min max step ≡ false → candidatesOf start min max step ≡ firstCandidate start min max ∷ flatTo (halfTurnsOf start min max step) (halfTurn (firstCandidate start min max) min max step)
-  candidates-by-half-turns u = candidates-walked u ∙ ap (λ (l : List Float). firstCandidate start min max ∷ l) (sym (half-turns (firstCandidate start min max) min max step (turnsOf start min max step)))
+  pub candidates-by-tries : unfit start min max step ≡ false → candidatesOf start min max step ≡ firstCandidate start min max ∷ flatTo (triesOf start min max step) (triedAt (firstCandidate start min max) min max step)
+  candidates-by-tries u = candidates-walked u ∙ ap (λ (l : List Float). firstCandidate start min max ∷ l) (sym (tries-are-turns (firstCandidate start min max) min max step (turnsOf start min max step)))
 
   -- ---- the refusal
   -- from what the code has in hand: whether the floats are unfit, and the walk's count
-  pub refusal-told : (u : Bool) (m len r : ℕ) → u ≡ unfit start min max step → m ≡ length (walked start min max step) → r ≡ firstRefusal (refuse 5 u ∷ refuse 6 (ltb len (m + 1)) ∷ []) → r ≡ refusalOf start min max step len
+  pub refusal-told : (u : Bool) (m len r : ℕ) → u ≡ unfit start min max step → m ≡ length (walked start min max step) → r ≡ firstRefusal (conditions u (ltb len (m + 1))) → r ≡ refusalOf start min max step len
   unfolding refusalOf
-  refusal-told u m len r eu em er = er ∙ ap (λ (b : Bool). firstRefusal (refuse 5 b ∷ refuse 6 (ltb len (m + 1)) ∷ [])) eu ∙ go (unfit start min max step) refl
+  refusal-told u m len r eu em er = er ∙ ap (λ (b : Bool). firstRefusal (conditions b (ltb len (m + 1)))) eu ∙ go (unfit start min max step) refl
     where
-      go : (u : Bool) → unfit start min max step ≡ u → firstRefusal (refuse 5 u ∷ refuse 6 (ltb len (m + 1)) ∷ []) ≡ firstRefusal (refuse 5 u ∷ refuse 6 (tooLong start min max step len) ∷ [])
+      go : (u : Bool) → unfit start min max step ≡ u → firstRefusal (conditions u (ltb len (m + 1))) ≡ firstRefusal (conditions u (tooLong start min max step len))
       go true e = refl
-      go false e = ap (λ (k : ℕ). firstRefusal (refuse 6 (ltb len k) ∷ [])) (add-one m ∙ ap suc em ∙ sym (ap length (candidates-walked e)))
+      go false e = ap (λ (k : ℕ). firstRefusal (conditions false (ltb len k))) (add-one m ∙ ap suc em ∙ sym (ap length (candidates-walked e)))
 
   -- what is not refused is fit, and has room
   pub accepted : (len : ℕ) → refusalOf start min max step len ≡ 0 → (unfit start min max step ≡ false) × (length (candidatesOf start min max step) ≤ len)
   unfolding refusalOf
-  accepted len e = go (unfit start min max step) (tooLong start min max step len) refl refl e
-    where
-      go : (u l : Bool) → unfit start min max step ≡ u → tooLong start min max step len ≡ l → firstRefusal (refuse 5 u ∷ refuse 6 l ∷ []) ≡ 0 → (unfit start min max step ≡ false) × (length (candidatesOf start min max step) ≤ len)
-      go true l a b z = absurd (omega (arith, z))
-      go false true a b z = absurd (omega (arith, z))
-      go false false a b z = (a, ltb-false len (length (candidatesOf start min max step)) b)
+  accepted len e =
+      let h = both-true (not (unfit start min max step)) (not (tooLong start min max step len) && true) (all-hold (conditions (unfit start min max step) (tooLong start min max step len)) refl e) in
+      (not-true (unfit start min max step) (h .0), ltb-false len (length (candidatesOf start min max step)) (not-true (tooLong start min max step len) (both-true (not (tooLong start min max step len)) true (h .1) .0)))
 
   -- so the answer is the first candidate and those of the walk, and these have room
   pub answer-filled : (first : Float) (m len : ℕ) → refusalOf start min max step len ≡ 0 → first ≡ firstCandidate start min max → m ≡ turnsOf start min max step

@@ -1,14 +1,16 @@
 -- The places of `penalty_placement_candidates`, in binary32, each operation rounded once. Definitions only.
-use mathlib.Core.Bool.{Bool, true, false, cond, not, _&&_, _||_}
+use mathlib.Core.Bool.{Bool, cond, not, _&&_, _||_}
 use mathlib.Core.List.{List, [], _∷_}
 use Prim.Native.Nat.{ℕ, suc, _*_, _/_, _%_}
 use lib.Dec.{eqb, ltb}
 use lib.ListN.{length}
 use lib.Ieee.{Float, neg, isNan, lt, le}
+use Rattle.lists.specs.Counting.{countTo}
 use Rattle.lists.specs.Gather.{flatTo, onlyIf}
+use Rattle.lists.specs.Refusals.{Condition, firstRefusal}
 use Rattle.floats.specs.Leaves.{clamp}
-use Rattle.floats.specs.Arithmetic.{_+₃₂_, _*₃₂_, zero32, half}
-use Rattle.floats.specs.Candidates.{sixtyFour, sixtyFourth, down-by, up-by, countTo, placesAt}
+use Rattle.floats.specs.Arithmetic.{_+₃₂_, _*₃₂_, zero32, half, sixtyFour, sixtyFourth}
+use Rattle.spacing.specs.Spacing.{down-by, up-by, placesAt}
 
 -- a bound is a NaN, or min is above max
 unfoldable pub crossed : Float → Float → Bool
@@ -29,35 +31,29 @@ abbrev pub candidatesOf : Float → Float → Float → Float → List Float
 candidatesOf start min max step = candidatesTo 8192 start min max step
 
 -- ---- refusals
--- beyond 64 either way
-abbrev pub beyond : Float → Bool
-beyond v = lt v (neg sixtyFour) || lt sixtyFour v
+-- not from -64 to 64
+abbrev pub tooFar : Float → Bool
+tooFar v = lt v (neg sixtyFour) || lt sixtyFour v
 
 -- above 0 and below 1/64
 abbrev pub tooFine : Float → Bool
 tooFine step = lt zero32 step && lt step sixtyFourth
 
--- bounds that are not crossed, with a start that is a NaN, a bound beyond 64, or a step that is a NaN or too fine
+-- bounds that are not crossed, with a start that is a NaN, a bound too far out, or a step that is a NaN or too fine
 unfoldable pub unfit : Float → Float → Float → Float → Bool
-unfit start min max step = not (crossed min max) && (isNan start || beyond min || beyond max || isNan step || tooFine step)
+unfit start min max step = not (crossed min max) && (isNan start || tooFar min || tooFar max || isNan step || tooFine step)
 
 -- the list needs more places than the len lent ones
 abbrev pub tooLong : Float → Float → Float → Float → ℕ → Bool
 tooLong start min max step len = ltb len (length (candidatesOf start min max step))
 
--- a refusal's number and whether it applies
-pub data Ground : Type 0 where
-  refuse : ℕ → Bool → Ground
-
--- the number of the first that applies, or 0
-abbrev pub firstRefusal : List Ground → ℕ
-firstRefusal [] = 0
-firstRefusal (refuse n true ∷ gs) = n
-firstRefusal (refuse n false ∷ gs) = firstRefusal gs
+-- what must hold, in this order: the floats are not unfit, and the list is not too long
+abbrev pub conditions : Bool → Bool → List Condition
+conditions bad long = record { holds = not bad; number = 5 } ∷ record { holds = not long; number = 6 } ∷ []
 
 -- the refusal's number, or 0 for none
 unfoldable pub refusalOf : Float → Float → Float → Float → ℕ → ℕ
-refusalOf start min max step len = firstRefusal (refuse 5 (unfit start min max step) ∷ refuse 6 (tooLong start min max step len) ∷ [])
+refusalOf start min max step len = firstRefusal (conditions (unfit start min max step) (tooLong start min max step len))
 
 -- what is written into len lent places: the candidates, or nothing where they are refused
 unfoldable pub answerOf : Float → Float → Float → Float → ℕ → List Float
@@ -72,35 +68,35 @@ firstCandidate start min max = cond (crossed min max) (middle min max) (clamp st
 unfoldable pub walks : Float → Float → Float → Float → Bool
 walks start min max step = not (crossed min max) && not (unfit start min max step) && not (le step zero32)
 
--- a place of k lies within its bound
-abbrev pub reaches : Float → Float → Float → Float → ℕ → Bool
-reaches first min max step k = le min (down-by first step k) || le (up-by first step k) max
+-- k = i + 1 has a place within its bound
+abbrev pub hasPlace : Float → Float → Float → Float → ℕ → Bool
+hasPlace first min max step i = le min (down-by first step (suc i)) || le (up-by first step (suc i)) max
 
--- how many k up to 8192 reach a place
-abbrev pub reached : Float → Float → Float → Float → ℕ
-reached first min max step = countTo (reaches first min max step) 8192
+-- the turns from a first candidate: one for each k up to 8192 that has a place
+abbrev pub turnsFrom : Float → Float → Float → Float → ℕ
+turnsFrom first min max step = countTo 8192 (hasPlace first min max step)
 
--- the turns: one for each k that reaches a place; none where refusal 5 applies
+-- the turns; none where there is only the first candidate, and where refusal 5 applies
 unfoldable pub turnsOf : Float → Float → Float → Float → ℕ
-turnsOf start min max step = cond (walks start min max step) (reached (firstCandidate start min max) min max step) 0
+turnsOf start min max step = cond (walks start min max step) (turnsFrom (firstCandidate start min max) min max step) 0
 
 -- the candidates after the first
 abbrev pub walked : Float → Float → Float → Float → List Float
 walked start min max step = flatTo (turnsOf start min max step) (placesAt (firstCandidate start min max) min max step)
 
--- ---- and with one place at a time, for a caller that has no memory to lend: half turns j = 0, 1, .., of which the even ones go down
--- the half turns
-abbrev pub halfTurnsOf : Float → Float → Float → Float → ℕ
-halfTurnsOf start min max step = 2 * turnsOf start min max step
+-- ---- and with one place at a time, for a caller that has no memory to lend: tries j = 0, 1, .., two for each turn, of which the even ones go down
+-- the tries
+abbrev pub triesOf : Float → Float → Float → Float → ℕ
+triesOf start min max step = 2 * turnsOf start min max step
 
--- the place of the half turn j: k is j / 2 + 1
+-- the place of the try j: k is j / 2 + 1
 unfoldable pub candidateAt : Float → Float → ℕ → Float
 candidateAt first step j = cond (eqb (j % 2) 0) (down-by first step (suc (j / 2))) (up-by first step (suc (j / 2)))
 
--- whether the place x of the half turn j lies within the bound on its side
+-- whether the place x of the try j lies within the bound on its side
 unfoldable pub isCandidate : Float → Float → ℕ → Float → Bool
 isCandidate min max j x = cond (eqb (j % 2) 0) (le min x) (le x max)
 
--- what the half turn j adds: its place, where that is a candidate
-abbrev pub halfTurn : Float → Float → Float → Float → ℕ → List Float
-halfTurn first min max step j = onlyIf (isCandidate min max j (candidateAt first step j)) (candidateAt first step j)
+-- what the try j adds: its place, where that is a candidate
+abbrev pub triedAt : Float → Float → Float → Float → ℕ → List Float
+triedAt first min max step j = onlyIf (isCandidate min max j (candidateAt first step j)) (candidateAt first step j)

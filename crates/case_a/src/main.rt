@@ -143,7 +143,7 @@ fn main() {
     let xs = [0.0f32; 1];
     let ys = [0.0f32; 1];
     let mut text = io::buffer();
-    let answer = sheet::write_sheet(s, &xs[..0], &ys[..0], &mut text);
+    let answer = call::write_sheet(s, &xs[..0], &ys[..0], &mut text);
     match answer {
         SheetAnswer::Refused(_) => {
             io::write_all(STDOUT_FILENO, b"refused\n");

@@ -10,18 +10,19 @@ use lib.IntN.{pos}
 use lib.Ieee.{Float, fin, neg}
 use Rattle.lists.specs.Gather.{flatTo}
 use Rattle.floats.specs.Arithmetic.{zero32}
-use Rattle.candidates.specs.Candidates.{crossed, candidatesTo, candidatesOf, unfit, refusalOf, firstRefusal, refuse, answerOf}
+use Rattle.lists.specs.Refusals.{firstRefusal}
+use Rattle.candidates.specs.Candidates.{crossed, candidatesTo, candidatesOf, unfit, conditions, refusalOf, answerOf}
 use Rattle.candidates.proofs.CandidatesEnd.{break-is-the-end}
 use Rattle.cases.proofs.Opened.{floats}
 use Rattle.cases.proofs.Field.{_over_}
 
 -- the refusal and the answer where the list l is known and refusal 5 does not apply
 module _ (start min max step : Float) (lent : ℕ) (l : List Float) (known : candidatesOf start min max step ≡ l) (fit : unfit start min max step ≡ false) where
-  known-refusal : refusalOf start min max step lent ≡ firstRefusal (refuse 5 false ∷ refuse 6 (ltb lent (length l)) ∷ [])
+  known-refusal : refusalOf start min max step lent ≡ firstRefusal (conditions false (ltb lent (length l)))
   unfolding refusalOf
-  known-refusal = ap₂ (λ (b : Bool) (m : List Float). firstRefusal (refuse 5 b ∷ refuse 6 (ltb lent (length m)) ∷ [])) fit known
+  known-refusal = ap₂ (λ (b : Bool) (m : List Float). firstRefusal (conditions b (ltb lent (length m)))) fit known
 
-  known-answer : answerOf start min max step lent ≡ cond (eqb (firstRefusal (refuse 5 false ∷ refuse 6 (ltb lent (length l)) ∷ [])) 0) l []
+  known-answer : answerOf start min max step lent ≡ cond (eqb (firstRefusal (conditions false (ltb lent (length l)))) 0) l []
   unfolding answerOf
   known-answer = ap₂ (λ (r : ℕ) (m : List Float). cond (eqb r 0) m []) known-refusal known
 

@@ -23,7 +23,8 @@ use Rattle.game.specs.declared.Team.{Team}
 use Rattle.game.specs.declared.Wish.the-variants.{Nothing}
 use Rattle.refusals.specs.Refusals.{refusalOf}
 use Rattle.decision.specs.Decision.{decisionOf}
-use Rattle.decision.specs.HalfTurn.{turned, SameDecision, Excepted, AllFit, PlayerFit, Fit}
+use Rattle.decision.specs.Fit.{PlayerFit, BallFit, Fit}
+use Rattle.decision.specs.HalfTurn.{turned, SameDecision, Excepted}
 use Rattle.decision.proofs.HalfTurn.{half-turn}
 use Rattle.cases.proofs.Opened.{floats, answers}
 use Rattle.cases.proofs.Field.{_over_, gameIn, playerWith, seenAt, at, absent, team, situation}
@@ -95,14 +96,30 @@ all-absent (suc n) = more absent-fits (all-absent n)
 
 seen-fits : (x y : Float) (was : Bool) → T (fits binary32 x) → T (fits binary32 y) → PlayerFit (playerWith (seenAt x y) NoPenalty was)
 unfolding floats
-seen-fits x y was h k = record { pose = (h, (k, (tt, (tt, tt)))); reference = tt; allowance = tt }
+seen-fits x y was h k = record { pose = record { x = h; y = k; theta = tt; radius = tt }; reference = tt; allowance = tt }
 
 -- every float of A fits, if the ball's do
-fit : (ball : Ball) → AllFit (ball .x ∷ ball .y ∷ ball .z ∷ []) → Fit (withBall ball NoSide) [] []
+fit : (ball : Ball) → BallFit ball → Fit (withBall ball NoSide) [] []
 unfolding answers
 fit ball h =
     record {
-      field = (tt, (tt, (tt, (tt, (tt, (tt, (tt, (tt, (tt, (tt, (tt, (tt, (tt, (tt, tt))))))))))))));
+      field =
+          record {
+            length = tt;
+            width = tt;
+            goal-width = tt;
+            goal-height = tt;
+            goal-area-length = tt;
+            goal-area-width = tt;
+            penalty-area-length = tt;
+            penalty-area-width = tt;
+            penalty-mark-distance = tt;
+            center-circle-radius = tt;
+            border-strip-width = tt;
+            mark-radius = tt;
+            line-width = tt;
+            ball-radius = tt;
+          };
       distance = tt;
       home =
           each
@@ -129,7 +146,7 @@ not-excepted e = true≢false (sym e)
 
 pub a-turned : SameDecision Nothing (decisionOf caseA [] []) (decisionOf (turned caseA) [] [])
 unfolding floats
-a-turned = half-turn caseA [] [] (fit (caseA .ball) (tt, (tt, (tt, tt)))) a-accepted .equal-if not-excepted
+a-turned = half-turn caseA [] [] (fit (caseA .ball) (record { x = tt; y = tt; z = tt })) a-accepted .equal-if not-excepted
 
 -- with the ball between the halves, touched by nobody, they are not
 untouched-accepted : refusalOf untouched [] [] ≡ 0
@@ -142,4 +159,4 @@ excepted = refl
 
 pub untouched-turned : SameDecision Nothing (decisionOf untouched [] []) (decisionOf (turned untouched) [] []) → ⊥
 unfolding floats
-untouched-turned d = half-turn untouched [] [] (fit (untouched .ball) (tt, (tt, (tt, tt)))) untouched-accepted .equal-only-if d excepted
+untouched-turned d = half-turn untouched [] [] (fit (untouched .ball) (record { x = tt; y = tt; z = tt })) untouched-accepted .equal-only-if d excepted

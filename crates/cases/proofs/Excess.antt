@@ -10,9 +10,9 @@ use Rattle.game.specs.declared.MaybeMargins.the-variants.{NoMargins, Known}
 use Rattle.game.specs.declared.Penalty.the-variants.{NoPenalty, Pushing}
 use Rattle.game.specs.declared.PlayerList.{PlayerList}
 use Rattle.game.specs.declared.PlayerMargins.{PlayerMargins}
-use Rattle.ball.specs.declared.BallJudgment.the-variants.{NoJudgment}
-use Rattle.selection.specs.Counts.{playersOnField}
-use Rattle.selection.specs.Excess.{goalAreaExcess}
+use Rattle.game.specs.declared.BallJudgment.the-variants.{NoJudgment}
+use Rattle.counts.specs.Counts.{playersOnField}
+use Rattle.excess.specs.Excess.{goalAreaExcess}
 use Rattle.decision.specs.Decision.{answerOf}
 use Rattle.cases.proofs.Opened.{answers}
 use Rattle.cases.proofs.Field.{_over_, at}

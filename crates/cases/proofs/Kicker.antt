@@ -12,8 +12,8 @@ use Rattle.game.specs.declared.Side.the-variants.{Home}
 use Rattle.game.specs.declared.State.the-variants.{Set}
 use Rattle.game.specs.declared.Wish.the-variants.{Nothing}
 use Rattle.decision.specs.Decision.{answerOf}
-use Rattle.decision.specs.declared.judges.KickingPlayer.{KickingPlayer}
-use Rattle.decision.specs.declared.judges.KickingPlayer.the-variants.{NoKicker, Kicker}
+use Rattle.game.specs.declared.KickingPlayer.{KickingPlayer}
+use Rattle.game.specs.declared.KickingPlayer.the-variants.{NoKicker, Kicker}
 use Rattle.cases.proofs.Opened.{answers}
 use Rattle.cases.proofs.Field.{_over_, gameIn, at, absent, team, situation}
 use Rattle.cases.proofs.CaseA.{ballAt}

@@ -3,25 +3,27 @@ use lib.Ieee.{neg, add, sub, mul, div, lt, le, eq, isNan, fits, ofInt, ofBits, t
 use Rattle.lists.specs.Every.{everyTo}
 use Rattle.lists.specs.Gather.{flatTo}
 use Rattle.lists.specs.Put.{fronted}
-use Rattle.floats.specs.Hypot.{hypot}
+use Rattle.hypot.specs.Hypot.{hypot}
 use Rattle.floats.specs.Leaves.{negative, withSign, minimumNumber, maximumNumber, clamp, totalKey}
 use Rattle.game.specs.Players.{listed, numbersWhere}
 use Rattle.geometry.specs.Geometry.{marginsOf, computeMargins}
-use Rattle.positioning.specs.Positioning.{isIllegallyPositioned, isInAvoidanceRegion, isAvoidanceRegionActive, kickOffVerdict, attackVerdict, defenceVerdict}
+use Rattle.avoidance.specs.Avoidance.{isInAvoidanceRegion, isAvoidanceRegionActive}
+use Rattle.positioning.specs.Positioning.{isIllegallyPositioned, kickOffVerdict, attackVerdict, defenceVerdict}
 use Rattle.candidates.specs.Candidates.{crossed, candidatesTo, unfit, firstCandidate}
-use Rattle.selection.specs.Counting.{countTo, firstTo}
-use Rattle.selection.specs.Counts.{playersOnField}
-use Rattle.selection.specs.Excess.{goalAreaExcess}
-use Rattle.selection.specs.Kicker.{determineKickingPlayer}
+use Rattle.lists.specs.Counting.{countTo, firstTo}
+use Rattle.counts.specs.Counts.{playersOnField}
+use Rattle.excess.specs.Excess.{goalAreaExcess}
+use Rattle.kicker.specs.Kicker.{determineKickingPlayer}
 use Rattle.motion.specs.Motion.{movedPlayers, referencesAfter}
 use Rattle.ball.specs.Ball.{ballJudgment}
 use Rattle.places.specs.Places.{ballAtRestart, ballInSet, penaltyShotPlace}
 use Rattle.penalty.specs.Penalty.{placeForPenalty}
 use Rattle.refusals.specs.Refusals.{poseFits, refusalOf}
-use Rattle.decision.specs.Decision.{verdictOn, teamVerdicts, emptyList, teamExcess, sideKicker, kickingPlayer, leavingPlayers, ballCalled, restartPlaceOf, setPlaceOf, penaltyPlaceOf, shotPlaceOf, wishedPlace, teamMargins, teamDecision, sideMargins, sideDecision, decisionOf, answerOf}
+use Rattle.decision.specs.Decision.{teamVerdicts, emptyList, teamExcess, kickingPlayer, leavingPlayers, ballCalled, wishedPlace, teamMargins, teamDecision, sideMargins, sideDecision, decisionOf, answerOf}
 use Rattle.lines.specs.Line.{columnByte, columnsOf, lineOf, linesOf}
 use Rattle.sheet.specs.Rows.{verdictRows, listRows, ballRows, placeRows, rowsOf, sheetRows}
-use Rattle.sheet.specs.Sheet.{textOf, decisionAnswer, decisionSheet, sheetAnswer, sheetAfter}
+use Rattle.sheet.specs.Sheet.{textOf}
+use Rattle.call.specs.Call.{sheetAnswer, sheetAfter}
 
 -- floats and the functions on them
 unfoldable pub floats : Unit {0}
@@ -30,10 +32,10 @@ floats = tt
 
 -- an answer, down to the floats
 unfoldable pub answers : Unit {0}
-unfolding floats everyTo flatTo fronted listed numbersWhere marginsOf computeMargins isIllegallyPositioned isInAvoidanceRegion isAvoidanceRegionActive kickOffVerdict attackVerdict defenceVerdict crossed candidatesTo unfit firstCandidate countTo firstTo playersOnField goalAreaExcess determineKickingPlayer movedPlayers referencesAfter ballJudgment ballAtRestart ballInSet penaltyShotPlace placeForPenalty poseFits refusalOf verdictOn teamVerdicts emptyList teamExcess sideKicker kickingPlayer leavingPlayers ballCalled restartPlaceOf setPlaceOf penaltyPlaceOf shotPlaceOf wishedPlace teamMargins teamDecision sideMargins sideDecision decisionOf answerOf
+unfolding floats everyTo flatTo fronted listed numbersWhere marginsOf computeMargins isIllegallyPositioned isInAvoidanceRegion isAvoidanceRegionActive kickOffVerdict attackVerdict defenceVerdict crossed candidatesTo unfit firstCandidate countTo firstTo playersOnField goalAreaExcess determineKickingPlayer movedPlayers referencesAfter ballJudgment ballAtRestart ballInSet penaltyShotPlace placeForPenalty poseFits refusalOf teamVerdicts emptyList teamExcess kickingPlayer leavingPlayers ballCalled wishedPlace teamMargins teamDecision sideMargins sideDecision decisionOf answerOf
 answers = tt
 
 -- a sheet, down to the floats
 unfoldable pub sheets : Unit {0}
-unfolding answers columnByte columnsOf lineOf linesOf verdictRows listRows ballRows placeRows rowsOf sheetRows textOf decisionAnswer decisionSheet sheetAnswer sheetAfter
+unfolding answers columnByte columnsOf lineOf linesOf verdictRows listRows ballRows placeRows rowsOf sheetRows textOf sheetAnswer sheetAfter
 sheets = tt

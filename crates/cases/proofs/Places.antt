@@ -10,8 +10,8 @@ use Rattle.game.specs.declared.Side.the-variants.{Home}
 use Rattle.game.specs.declared.State.the-variants.{Set}
 use Rattle.game.specs.declared.Wish.{Wish}
 use Rattle.game.specs.declared.Wish.the-variants.{BallInSet, ForPenaltyShot}
-use Rattle.places.specs.declared.Placement.{Placement}
-use Rattle.places.specs.declared.Placement.the-variants.{BallAt, PlayerAt}
+use Rattle.game.specs.declared.Placement.{Placement}
+use Rattle.game.specs.declared.Placement.the-variants.{BallAt, PlayerAt}
 use Rattle.decision.specs.Decision.{answerOf}
 use Rattle.cases.proofs.Opened.{answers}
 use Rattle.cases.proofs.Field.{_over_, gameIn, at, absent, team, situation}

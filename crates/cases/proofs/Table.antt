@@ -6,34 +6,34 @@ use Prim.Native.Nat.{ℕ, _+_, _^_}
 use lib.ListN.{replicate}
 use lib.Ieee.{Float, neg}
 use Rattle.floats.specs.Arithmetic.{_+₃₂_, _*₃₂_, zero32, half, pi}
-use Rattle.floats.specs.Hypot.{hypot}
+use Rattle.hypot.specs.Hypot.{hypot}
 use Rattle.game.specs.declared.MaybeMargins.{MaybeMargins}
 use Rattle.game.specs.declared.MaybeMargins.the-variants.{NoMargins, Known}
 use Rattle.game.specs.declared.MaybeSide.the-variants.{NoSide, Of}
 use Rattle.game.specs.declared.PlayerList.{PlayerList}
 use Rattle.game.specs.declared.PlayerMargins.{PlayerMargins}
 use Rattle.game.specs.declared.ReferencePose.the-variants.{NoReference}
-use Rattle.game.specs.declared.SetPlay.the-variants.{NoSetPlay, KickOff}
-use Rattle.game.specs.declared.SetPlay.the-variants.{ThrowIn as ThrowInPlay}
+use Rattle.game.specs.declared.SetPlay.the-variants.{NoSetPlay, KickOff, ThrowIn as ThrowInPlay}
 use Rattle.game.specs.declared.Side.the-variants.{Home, Away}
 use Rattle.game.specs.declared.Situation.{Situation}
 use Rattle.game.specs.declared.State.{State}
 use Rattle.game.specs.declared.State.the-variants.{Set, Playing}
 use Rattle.game.specs.declared.Wish.the-variants.{Nothing, BallAtRestart, ForPenalty}
-use Rattle.positioning.specs.declared.Positioning.{Positioning}
-use Rattle.positioning.specs.declared.Positioning.the-variants.{Legal, Illegal, IllegalUnlessKicker}
+use Rattle.game.specs.declared.Positioning.{Positioning}
+use Rattle.game.specs.declared.Positioning.the-variants.{Legal, Illegal, IllegalUnlessKicker}
 use Rattle.candidates.specs.Candidates.{answerOf as candidatesAnswer}
-use Rattle.ball.specs.declared.BallJudgment.{BallJudgment}
-use Rattle.ball.specs.declared.BallJudgment.the-variants.{NoJudgment, Goal, GoalKick, CornerKick, ThrowIn}
-use Rattle.places.specs.declared.Placement.the-variants.{NoPlace, BallAt, PlayerAt}
+use Rattle.game.specs.declared.BallJudgment.{BallJudgment}
+use Rattle.game.specs.declared.BallJudgment.the-variants.{NoJudgment, Goal, GoalKick, CornerKick, ThrowIn}
+use Rattle.game.specs.declared.Placement.the-variants.{NoPlace, BallAt, PlayerAt}
 use Rattle.refusals.specs.Refusals.{refusalOf}
 use Rattle.decision.specs.Decision.{sideMargins, decisionOf, answerOf}
 use Rattle.decision.specs.HalfTurn.{turned}
 use Rattle.decision.specs.declared.call.Answer.{Answer}
-use Rattle.decision.specs.declared.call.SideDecision.{SideDecision}
-use Rattle.decision.specs.declared.judges.KickingPlayer.the-variants.{NoKicker}
-use Rattle.decision.specs.declared.judges.PlayerVerdict.{PlayerVerdict}
-use Rattle.sheet.specs.Sheet.{textOf, sheetAnswer, sheetAfter}
+use Rattle.game.specs.declared.SideDecision.{SideDecision}
+use Rattle.game.specs.declared.KickingPlayer.the-variants.{NoKicker}
+use Rattle.game.specs.declared.PlayerVerdict.{PlayerVerdict}
+use Rattle.sheet.specs.Sheet.{textOf}
+use Rattle.call.specs.Call.{sheetAnswer, sheetAfter}
 use Rattle.sheet.specs.declared.text.SheetAnswer.the-variants.{Refused, Written}
 use Rattle.cases.proofs.Opened.{answers, floats, sheets}
 use Rattle.cases.proofs.Field.{_over_, gameIn, at, absent, team, situation}

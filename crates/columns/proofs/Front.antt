@@ -1,31 +1,16 @@
--- What a loop that counts a front keeps: after i turns the count is `frontTo i P`. And what that count means: each place below it holds, and the place at it does
--- not. Assumes nothing.
-use mathlib.Core.Path.{_≡_, refl, sym, ap, ap₂, _∙_}
+-- What the count of a front means: each place below it holds, and the place at it does not. Assumes nothing.
+use mathlib.Core.Path.{_≡_, refl, sym, ap, _∙_}
 use mathlib.Core.Bool.{Bool, true, false, _&&_, cond, true≢false}
 use mathlib.Core.Logic.{_⊎_, inl, inr}
 use Prim.Native.Nat.{ℕ, zero, suc, _+_, _≤_, _<_}
-use native.Mathlib.Nat.{le-antisymm, le-refl, le-step, eq-or-lt-of-le, not-suc-le-zero}
-use native.Mathlib.Numerals.{add-one}
+use native.Mathlib.Nat.{le-antisymm, le-refl, eq-or-lt-of-le, not-suc-le-zero}
 use native.Mathlib.Omega.{arith}
-use lib.Dec.{eqb}
-use borrow.Author.Tests.{eq-eqb, eqb-true}
+use lib.Dec.{eqb, ltb}
+use borrow.Author.Tests.{eq-eqb, eqb-true, ltb-true, ltb-false}
 use Rattle.lists.specs.Every.{everyTo}
-use Rattle.lists.proofs.Every.{both-true, every-at}
+use Rattle.lists.proofs.Every.{every-at}
+use Rattle.lists.proofs.Bools.{both-true}
 use Rattle.columns.specs.Columns.{grown, frontTo}
-
--- before the loop
-pub front-none : (P : ℕ → Bool) → 0 ≡ frontTo 0 P
-unfolding frontTo
-front-none P = refl
-
--- a turn
-pub front-turn : (P : ℕ → Bool) (front next i : ℕ) → front ≡ frontTo i P → next ≡ grown front i (P i) → next ≡ frontTo (i + 1) P
-unfolding frontTo
-front-turn P front next i e p = p ∙ ap (λ (k : ℕ). grown k i (P i)) e ∙ ap (λ (k : ℕ). frontTo k P) (sym (add-one i))
-
--- the loop's end
-pub front-done : (P : ℕ → Bool) (front i n : ℕ) → i ≤ n → n ≤ i → front ≡ frontTo i P → front ≡ frontTo n P
-front-done P front i n a b e = e ∙ ap (λ (k : ℕ). frontTo k P) (le-antisymm a b)
 
 -- what a turn makes of a count that is at most n: all of n and one more, or as it was
 data Turn (k n : ℕ) (b : Bool) : ℕ → Type 0 where
@@ -80,18 +65,19 @@ front-stops (suc n) P h = go (grown (frontTo n P) n (P n)) (turned (frontTo n P)
     go m (more e p) l b ih = absurd (omega arith)
     go m (kept e) l b ih = at-n e (eq-or-lt-of-le b) ih
 
-pub all-hold : (n : ℕ) (P : ℕ → Bool) → ((k : ℕ) → k < n → P k ≡ true) → everyTo n P ≡ true
-unfolding everyTo
-all-hold zero P e = refl
-all-hold (suc n) P e = ap₂ (λ (a b : Bool). a && b) (all-hold n P (λ k h. e k (le-step h))) (e n (le-refl (suc n)))
-
--- it is n exactly where all hold
-pub front-whole : (n : ℕ) (P : ℕ → Bool) → frontTo n P ≡ n → everyTo n P ≡ true
-front-whole n P e = all-hold n P (λ k h. front-holds n P k (omega arith))
-
+-- it is n where all hold
 pub whole-front : (n : ℕ) (P : ℕ → Bool) → everyTo n P ≡ true → frontTo n P ≡ n
 whole-front n P e = go (eq-or-lt-of-le (front-le n P))
   where
     go : (frontTo n P ≡ n) ⊎ (frontTo n P < n) → frontTo n P ≡ n
     go (inl g) = g
     go (inr g) = absurd (true≢false (sym (every-at n P e (frontTo n P) g) ∙ front-stops n P g))
+
+-- it is i where all below i hold and i does not
+pub front-here : (n : ℕ) (P : ℕ → Bool) (i : ℕ) → i < n → everyTo i P ≡ true → P i ≡ false → i ≡ frontTo n P
+front-here n P i h e f = go (ltb i (frontTo n P)) refl (ltb (frontTo n P) i) refl
+  where
+    go : (a : Bool) → ltb i (frontTo n P) ≡ a → (b : Bool) → ltb (frontTo n P) i ≡ b → i ≡ frontTo n P
+    go true ea b eb = absurd (true≢false (sym (front-holds n P i (ltb-true i (frontTo n P) ea)) ∙ f))
+    go false ea true eb = let low = ltb-true (frontTo n P) i eb in absurd (true≢false (sym (every-at i P e (frontTo n P) low) ∙ front-stops n P (omega arith)))
+    go false ea false eb = le-antisymm (ltb-false (frontTo n P) i eb) (ltb-false i (frontTo n P) ea)

@@ -1,2 +1,2 @@
 pub mod Front
-pub mod Whole
+pub mod Laid

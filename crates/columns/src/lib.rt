@@ -1,74 +1,68 @@
-// Which words of 32 bits are a situation: 563 of them, each one of its column's values.
-mod greatest;
+// Which words of 32 bits are within their columns, and which are a situation: `layout::WORDS` of them, all within.
+pub mod layout;
 
 ghost use mathlib.Core.Path.{_≡_};
+ghost use Prim.Native.Nat.{_≤_};
 ghost use lib.ListN.{length};
-ghost use Prim.Native.Nat.{_<_};
+ghost use Rattle.lists.specs.Every.{everyTo};
 ghost use Rattle.columns.specs.Columns as Spec;
 
-fn is_within(words: &[u32], greatest: &[u32; 563], i: usize) -> bool
-    requires { ⌜ (now greatest ≡ Spec.columns) × (i < length (now words)) × (i < 563) ⌝ }
-    ensures { λ r. ⌜ r ≡ Spec.isWithin (now (words .entry)) i ⌝ }
+// Whether the first n words are within, all of them looked at: several at a time, which a search for the first that is not could not do.
+fn all_within(words: &[u32], greatest: &[u32], n: usize) -> bool
+    requires { ⌜ (n ≤ length (now words)) × (n ≤ length (now greatest)) ⌝ }
+    ensures { λ r. ⌜ r ≡ everyTo n (Spec.inColumn (now (greatest .entry)) (now (words .entry))) ⌝ }
 {
-    words[i] <= greatest[i]
-}
-
-fn all_within(words: &[u32]) -> bool
-    requires { ⌜ length (now words) ≡ 563 ⌝ }
-    ensures { λ r. ⌜ r ≡ Spec.allWithin (now (words .entry)) ⌝ }
-{
-    let greatest = greatest::GREATEST;
     let mut ok = true;
     let mut i: usize = 0;
-    while i < 563 {
-        ok = ok & is_within(words, &greatest, i);
+    while i < n {
+        ok = ok & (words[i] <= greatest[i]);
         i += 1;
     }
     ok
 }
 
-// Whether they are 563 words, each one of its column's values.
-pub fn is_situation(words: &[u32]) -> bool
-    ensures { λ r. ⌜ r ≡ Spec.isSituation (now (words .entry)) ⌝ }
+// How many of the first n words come before the first that is not within.
+fn front_to(words: &[u32], greatest: &[u32], n: usize) -> usize
+    requires { ⌜ (n ≤ length (now words)) × (n ≤ length (now greatest)) ⌝ }
+    ensures { λ r. ⌜ r ≡ Spec.frontTo n (Spec.inColumn (now (greatest .entry)) (now (words .entry))) ⌝ }
 {
-    if words.len() == 563 {
-        return all_within(words);
+    if all_within(words, greatest, n) {
+        return n;
     }
-    false
+    let mut i: usize = 0;
+    while i < n {
+        if words[i] > greatest[i] {
+            return i;
+        }
+        i += 1;
+    }
+    n
 }
 
-fn is_there_within(words: &[u32], greatest: &[u32; 563], i: usize) -> bool
-    requires { ⌜ (now greatest ≡ Spec.columns) × (i < 563) ⌝ }
-    ensures { λ r. ⌜ r ≡ Spec.isThereWithin (now (words .entry)) i ⌝ }
+// How many words there are before the first that is missing or none of its column's values. `greatest` has the greatest value of each column.
+pub fn front_within(words: &[u32], greatest: &[u32]) -> usize
+    ensures { λ r. ⌜ r ≡ Spec.frontWithin (now (greatest .entry)) (now (words .entry)) ⌝ }
 {
-    if i < words.len() {
-        return is_within(words, greatest, i);
+    if words.len() < greatest.len() {
+        return front_to(words, greatest, words.len());
     }
-    false
+    front_to(words, greatest, greatest.len())
 }
 
-// One more than i where the front reaches i and the word there is within.
-fn front_more(words: &[u32], greatest: &[u32; 563], i: usize, front: usize) -> usize
-    requires { ⌜ (now greatest ≡ Spec.columns) × (i < 563) ⌝ }
-    ensures { λ r. ⌜ r ≡ Spec.grown front i (Spec.isThereWithin (now (words .entry)) i) ⌝ }
-{
-    let more = (front == i) & is_there_within(words, greatest, i);
-    if more {
-        return i + 1;
-    }
-    front
-}
-
-// How many words there are before the first that is missing or none of its column's values: 563 for a situation.
+// The same by the columns of a situation.
 pub fn words_within(words: &[u32]) -> usize
     ensures { λ r. ⌜ r ≡ Spec.wordsWithin (now (words .entry)) ⌝ }
 {
-    let greatest = greatest::GREATEST;
-    let mut front: usize = 0;
-    let mut i: usize = 0;
-    while i < 563 {
-        front = front_more(words, &greatest, i, front);
-        i += 1;
+    let greatest = layout::GREATEST;
+    front_within(words, &greatest)
+}
+
+// Whether they are a situation: as many words as it has, all within.
+pub fn is_situation(words: &[u32]) -> bool
+    ensures { λ r. ⌜ r ≡ Spec.isSituation (now (words .entry)) ⌝ }
+{
+    if words.len() == layout::WORDS {
+        return words_within(words) == layout::WORDS;
     }
-    front
+    false
 }

@@ -1,37 +1,25 @@
 -- What an accepted situation's floats are: coordinates within 64 either way, sizes of the field in their ranges. Assumes nothing.
-use mathlib.Core.Path.{_≡_, refl, sym, ap, _∙_, subst}
-use mathlib.Core.Bool.{Bool, true, false, not, _&&_}
+use mathlib.Core.Path.{_≡_, refl}
+use mathlib.Core.Bool.{true, not, _&&_}
 use Prim.Native.Nat.{ℕ}
 use lib.Dec.{T}
-use lib.Ieee.{Float, binary32, neg, lt, le, fits, isNan, ofBits}
-use lib.Ieee.Bits.{ofBits-fits}
-use Rattle.lists.proofs.Every.{both-true}
-use Rattle.floats.specs.Arithmetic.{zero32, one}
-use Rattle.floats.specs.Values.{posZero, Number, Finite}
-use Rattle.floats.specs.Candidates.{sixtyFour, Within}
-use Rattle.floats.proofs.Laws.Order.{le-trans-f, neg-number}
-use Rattle.floats.proofs.Laws.MinMax.{le-numbers}
-use Rattle.floats.proofs.Laws.Candidates.{finite-within}
+use lib.Ieee.{Float, binary32, neg, le, fits, isNan, ofBits}
+use Rattle.lists.proofs.Bools.{both-true}
+use Rattle.floats.specs.Arithmetic.{zero32, four, sixtyFour}
+use Rattle.floats.specs.Values.{posZero, Number, Within}
+use Rattle.floats.proofs.Laws.Constants.{bits-number, four-finite, sixtyFour-number}
+use Rattle.floats.proofs.Laws.Order.{le-trans-f, posZero-number, neg-number, le-numbers, number}
+use Rattle.floats.proofs.Laws.Rounding.{finite-number}
+use Rattle.floats.proofs.Laws.Within.{finite-within}
 use Rattle.game.specs.declared.Ball.{Ball}
 use Rattle.game.specs.declared.FieldDimensions.{FieldDimensions}
 use Rattle.places.specs.Turned.{Located}
 use Rattle.ball.specs.Turned.{Sized}
-use Rattle.refusals.specs.Refusals.{within, four, isSize, isCoordinate, fieldFits, ballFits}
-
--- a value that compares is a number
-no-nan : (x : Float) → isNan x ≡ false → T (not (isNan x))
-no-nan x e = subst (λ (b : Bool). T (not b)) (sym e) tt
-
-constant : (b : ℕ) → T (not (isNan (ofBits binary32 b))) → Number binary32 (ofBits binary32 b)
-constant b n = record { fit = ofBits-fits binary32 b; no-nan = n }
-
-sixty-four : Number binary32 sixtyFour
-unfolding ofBits isNan
-sixty-four = constant 0x4280_0000 tt
+use Rattle.refusals.specs.Refusals.{within, isSize, isCoordinate, fieldFits, ballFits}
 
 -- ---- from a range to a number within 64
 pub between : (lo x hi : Float) → T (fits binary32 x) → within lo x hi ≡ true → Number binary32 x
-between lo x hi f e = record { fit = f; no-nan = no-nan x (le-numbers x hi (both-true (le lo x) (le x hi) e .1) .0) }
+between lo x hi f e = number binary32 x f (le-numbers x hi (both-true (le lo x) (le x hi) e .1) .0)
 
 pub coordinate-within : (x : Float) → T (fits binary32 x) → isCoordinate x ≡ true → Within x
 coordinate-within x f e =
@@ -45,7 +33,7 @@ range-within b x f n l e =
     let q = between (ofBits binary32 b) x sixtyFour f e in
     record {
       number = q;
-      lowest = le-trans-f binary32 (neg sixtyFour) (ofBits binary32 b) x (neg-number binary32 sixtyFour sixty-four) (constant b n) q l (p .0);
+      lowest = le-trans-f binary32 (neg sixtyFour) (ofBits binary32 b) x (neg-number binary32 sixtyFour sixtyFour-number) (bits-number b n) q l (p .0);
       highest = p .1;
     }
 
@@ -95,6 +83,6 @@ field-sized f g h e =
     record {
       length-finite = finite-within (f .length) w;
       radius-finite = finite-within (f .«ball_radius») v;
-      length-least = le-trans-f binary32 posZero four (f .length) (constant 0 tt) (constant 0x4080_0000 tt) (w .number) refl (both-true (le four (f .length)) (le (f .length) sixtyFour) (r .length-range) .0);
+      length-least = le-trans-f binary32 posZero four (f .length) (posZero-number binary32) (finite-number binary32 four four-finite) (w .number) refl (both-true (le four (f .length)) (le (f .length) sixtyFour) (r .length-range) .0);
       radius-least = both-true (le zero32 (f .«ball_radius»)) (le (f .«ball_radius») sixtyFour) (r .radius-range) .0;
     }

@@ -11,8 +11,8 @@ use Rattle.game.specs.declared.Game.{Game}
 use Rattle.game.specs.declared.PlayerMargins.{PlayerMargins}
 use Rattle.game.specs.declared.Team.{Team}
 use Rattle.game.proofs.Listing.{few}
-use Rattle.selection.specs.Excess.{inGoalArea, inside, named, allowed, goalAreaExcess}
-use Rattle.selection.proofs.Counting.{count-le}
+use Rattle.excess.specs.Excess.{inGoalArea, inside, named, allowed, goalAreaExcess}
+use Rattle.lists.proofs.Counting.{count-le}
 use Rattle.motion.specs.Motion.{hasMoved, movedPlayers}
 use Rattle.decision.specs.Decision.{isLeaving, leavingPlayers, isExcessAsked, emptyList, teamExcess}
 

@@ -1,5 +1,7 @@
 pub mod Accepted
+pub mod Parts
 pub mod Sides
 pub mod Told
+pub mod Changed
 pub mod HalfTurn
 pub mod Few

@@ -1,5 +1,6 @@
 -- From what the calls tell to the definitions. Assumes nothing.
-use mathlib.Core.Path.{_≡_, sym, ap, _∙_}
+use mathlib.Core.Path.{_≡_, refl, sym, ap, ap₂, _∙_}
+use mathlib.Core.Logic.{_⊎_, inl, inr}
 use mathlib.Core.Bool.{Bool, true, false, cond}
 use mathlib.Core.List.{List}
 use Prim.Native.Nat.{ℕ}
@@ -7,12 +8,12 @@ use borrow.Author.Tests.{eq-eqb, ne-eqb}
 use lib.Dec.{eqb}
 use lib.Ieee.{Float}
 use Rattle.game.specs.Game.{isPlaying}
-use Rattle.game.specs.Players.{numberAt}
 use Rattle.game.specs.declared.Ball.{Ball}
 use Rattle.game.specs.declared.FieldDimensions.{FieldDimensions}
 use Rattle.game.specs.declared.Game.{Game}
-use Rattle.game.specs.declared.MaybeMargins.{MaybeMargins}
 use Rattle.game.specs.declared.MaybeNumber.{MaybeNumber}
+use Rattle.game.specs.declared.MaybeSide.{MaybeSide}
+use Rattle.game.specs.declared.MaybeSide.the-variants.{Of}
 use Rattle.game.specs.declared.Player.{Player}
 use Rattle.game.specs.declared.PlayerList.{PlayerList}
 use Rattle.game.specs.declared.PlayerMargins.{PlayerMargins}
@@ -20,45 +21,68 @@ use Rattle.game.specs.declared.Side.{Side}
 use Rattle.game.specs.declared.Side.the-variants.{Home, Away}
 use Rattle.game.specs.declared.Situation.{Situation}
 use Rattle.game.specs.declared.Team.{Team}
-use Rattle.positioning.specs.Positioning.{isIllegallyPositioned}
-use Rattle.positioning.specs.declared.Positioning.{Positioning}
-use Rattle.selection.specs.Excess.{goalAreaExcess}
-use Rattle.selection.specs.Kicker.{determineKickingPlayer}
+use Rattle.game.specs.declared.Positioning.{Positioning}
+use Rattle.game.specs.Players.{playerNumbered}
+use Rattle.places.specs.Places.{penaltyShotPlace, penaltyGoalkeeperPlace}
+use Rattle.excess.specs.Excess.{goalAreaExcess}
+use Rattle.kicker.specs.Kicker.{determineKickingPlayer}
 use Rattle.motion.specs.Motion.{movedPlayers, referencesAfter}
-use Rattle.ball.specs.declared.BallJudgment.{BallJudgment}
-use Rattle.motion.specs.declared.PlayerReference.{PlayerReference}
-use Rattle.places.specs.declared.Placement.{Placement}
+use Rattle.game.specs.declared.BallJudgment.{BallJudgment}
+use Rattle.game.specs.declared.PlayerReference.{PlayerReference}
+use Rattle.game.specs.declared.Placement.{Placement}
 use Rattle.refusals.specs.Refusals.{refusalOf}
-use Rattle.decision.specs.Decision.{verdictOn, teamVerdicts, isExcessAsked, emptyList, teamExcess, leavingPlayers, kickerNumbered, sideKicker, kickingPlayer, ballCalled, wishedPlace, teamMargins, teamDecision, sideMargins, sideDecision, decisionOf, emptyDecision, answerOf}
-use Rattle.decision.specs.declared.call.SideDecision.{SideDecision}
-use Rattle.decision.specs.declared.call.Decision.{Decision}
+use Rattle.decision.specs.Decision.{teamVerdicts, isExcessAsked, emptyList, teamExcess, leavingPlayers, kickerNumbered, kickerIfAny, kickingPlayer, ballCalled, wishedPlace, teamMargins, teamDecision, sideMargins, sideDecision, decisionOf, emptyDecision, answerOf}
+use Rattle.game.specs.declared.SideDecision.{SideDecision}
+use Rattle.game.specs.declared.Decision.{Decision}
 use Rattle.decision.specs.declared.call.Answer.{Answer}
-use Rattle.decision.specs.declared.judges.PlayerVerdict.{PlayerVerdict}
-use Rattle.decision.specs.declared.judges.KickingPlayer.{KickingPlayer}
+use Rattle.game.specs.declared.PlayerVerdict.{PlayerVerdict}
+use Rattle.game.specs.declared.KickingPlayer.{KickingPlayer}
 
 -- ---- a verdict
-module _ (g : Game) (f : FieldDimensions) (b : Ball) (side : Side) (keeper : MaybeNumber) (p : Player) (margins : MaybeMargins) (i : ℕ) where
-  pub verdict-told : (v : Positioning) → v ≡ isIllegallyPositioned g f b side keeper (numberAt i) p margins → record { verdict = v } ≡ verdictOn g f b side keeper p margins i
-  unfolding verdictOn
-  verdict-told v e = ap (λ (w : Positioning). record { verdict = w }) e
+pub verdict-told : (v w : Positioning) → v ≡ w → _≡_ {A = PlayerVerdict} (record { verdict = v }) (record { verdict = w })
+verdict-told v w e = ap (λ (z : Positioning). record { verdict = z }) e
 
 -- ---- an excess list, asked or not
-module _ (g : Game) (t : Team) (margins : List PlayerMargins) (asked : Bool) where
+module _ (g : Game) (t : Team) (margins : List PlayerMargins) where
   excess-if : Bool → PlayerList
   excess-if b = cond b (goalAreaExcess t margins (isPlaying (g .state))) emptyList
 
-  pub excess-told : (playing : Bool) (l : PlayerList) → asked ≡ isExcessAsked g → asked ≡ true → playing ≡ isPlaying (g .state) → l ≡ goalAreaExcess t margins playing → l ≡ teamExcess g t margins
+  pub excess-told : (playing : Bool) (l : PlayerList) → isExcessAsked g ≡ true → playing ≡ isPlaying (g .state) → l ≡ goalAreaExcess t margins playing → l ≡ teamExcess g t margins
   unfolding teamExcess excess-if
-  excess-told playing l a y p e = e ∙ ap (goalAreaExcess t margins) p ∙ ap excess-if (sym y ∙ a)
+  excess-told playing l y p e = e ∙ ap (goalAreaExcess t margins) p ∙ ap excess-if (sym y)
 
-  pub excess-none : (l : PlayerList) → asked ≡ isExcessAsked g → asked ≡ false → l ≡ emptyList → l ≡ teamExcess g t margins
+  pub excess-none : (l : PlayerList) → isExcessAsked g ≡ false → l ≡ emptyList → l ≡ teamExcess g t margins
   unfolding teamExcess excess-if
-  excess-none l a n e = e ∙ ap excess-if (sym n ∙ a)
+  excess-none l n e = e ∙ ap excess-if (sym n)
 
--- ---- the kicking player of a side
-pub kicker-told : (g : Game) (t : Team) (f : FieldDimensions) (margins : List PlayerMargins) (side : Side) (n : MaybeNumber) (k : KickingPlayer) → n ≡ determineKickingPlayer g t f margins side → k ≡ kickerNumbered side n → k ≡ sideKicker g t f margins side
-unfolding sideKicker
-kicker-told g t f margins side n k en ek = ek ∙ ap (kickerNumbered side) en
+-- ---- the kicking player, by the side that kicks
+-- from whichever way it came
+pub by-way {ℓ ℓ′ ℓ″} : {A : Type ℓ} {B : Type ℓ′} {C : Type ℓ″} → A ⊎ B → (A → C) → (B → C) → C
+by-way (inl x) f g = f x
+by-way (inr y) f g = g y
+
+module _ (g : Game) (home away : Team) (f : FieldDimensions) (hm am : List PlayerMargins) where
+  -- the number of the kicking player of one side
+  abbrev numberOf : Side → MaybeNumber
+  numberOf Home = determineKickingPlayer g home f hm Home
+  numberOf Away = determineKickingPlayer g away f am Away
+
+  of-side : (side : Side) → kickerNumbered side (numberOf side) ≡ kickerIfAny (Of side) g home away f hm am
+  of-side Home = refl
+  of-side Away = refl
+
+  pub kicker-told : (side other : Side) (number found : MaybeNumber) (k : KickingPlayer) → g .«kicking_side» ≡ Of other → k ≡ kickerNumbered other number → other ≡ side → number ≡ found → found ≡ numberOf side → k ≡ kickingPlayer g home away f hm am
+  unfolding kickingPlayer
+  kicker-told side other number found k e ek es en ef =
+      ek ∙ ap₂ kickerNumbered es (en ∙ ef) ∙ of-side side ∙ ap (λ (m : MaybeSide). kickerIfAny m g home away f hm am) (sym (e ∙ ap Of es))
+
+-- ---- a player's place in a penalty shot, and a goalkeeper's
+module _ (g : Game) (f : FieldDimensions) (side : Side) (team t : Team) where
+  pub shot-told : (n : ℕ) (p : Player) (r : Placement) → t ≡ team → p ≡ playerNumbered t n → r ≡ penaltyShotPlace g f side n p → r ≡ penaltyShotPlace g f side n (playerNumbered team n)
+  shot-told n p r et ep er = er ∙ ap (penaltyShotPlace g f side n) (ep ∙ ap (λ (u : Team). playerNumbered u n) et)
+
+  pub keeper-told : (r : Placement) → t ≡ team → r ≡ penaltyGoalkeeperPlace g f side t → r ≡ penaltyGoalkeeperPlace g f side team
+  keeper-told r et er = er ∙ ap (penaltyGoalkeeperPlace g f side) et
 
 -- ---- the items of a side
 module _ (g : Game) (f : FieldDimensions) (b : Ball) (side : Side) (t : Team) (margins : List PlayerMargins) where

@@ -8,11 +8,10 @@ use lib.ListN.{replicate}
 use lib.Ieee.{Float}
 use Rattle.lists.specs.Table.{table}
 use Rattle.game.specs.Game.{isShootout, isSet, isPlaying}
-use Rattle.game.specs.Players.{playerAt, marginsAt, teamOf, listed, numberAt, numbersWhere}
+use Rattle.game.specs.Players.{playerAt, playerNumbered, marginsAt, teamOf, listed, numberAt, numbersWhere}
 use Rattle.game.specs.declared.Ball.{Ball}
 use Rattle.game.specs.declared.FieldDimensions.{FieldDimensions}
 use Rattle.game.specs.declared.Game.{Game}
-use Rattle.game.specs.declared.MaybeMargins.{MaybeMargins}
 use Rattle.game.specs.declared.MaybeNumber.{MaybeNumber}
 use Rattle.game.specs.declared.MaybeNumber.the-variants.{NoNumber, Number}
 use Rattle.game.specs.declared.Player.{Player}
@@ -29,34 +28,30 @@ use Rattle.game.specs.declared.Wish.{Wish}
 use Rattle.game.specs.declared.Wish.the-variants.{Nothing, BallAtRestart, BallInSet, ForPenalty, ForPenaltyShot, Goalkeeper}
 use Rattle.geometry.specs.Geometry.{sideToSign, computeMargins, isLeavingTheField}
 use Rattle.positioning.specs.Positioning.{isIllegallyPositioned}
-use Rattle.positioning.specs.declared.Positioning.the-variants.{Legal}
-use Rattle.selection.specs.Counts.{playersOnField}
-use Rattle.selection.specs.Excess.{goalAreaExcess}
-use Rattle.selection.specs.Kicker.{determineKickingPlayer}
+use Rattle.game.specs.declared.Positioning.the-variants.{Legal}
+use Rattle.counts.specs.Counts.{playersOnField}
+use Rattle.excess.specs.Excess.{goalAreaExcess}
+use Rattle.kicker.specs.Kicker.{determineKickingPlayer}
 use Rattle.motion.specs.Motion.{movedPlayers, referencesAfter}
 use Rattle.ball.specs.Ball.{ballJudgment}
-use Rattle.places.specs.Places.{ballAtRestart, ballInSet, penaltyShotPlace, penaltyGoalkeeperPlace, playerNumbered}
-use Rattle.ball.specs.declared.BallJudgment.{BallJudgment}
-use Rattle.ball.specs.declared.BallJudgment.the-variants.{NoJudgment}
-use Rattle.places.specs.declared.Placement.{Placement}
-use Rattle.places.specs.declared.Placement.the-variants.{NoPlace}
+use Rattle.places.specs.Places.{ballAtRestart, ballInSet, penaltyShotPlace, penaltyGoalkeeperPlace}
+use Rattle.game.specs.declared.BallJudgment.{BallJudgment}
+use Rattle.game.specs.declared.BallJudgment.the-variants.{NoJudgment}
+use Rattle.game.specs.declared.Placement.{Placement}
+use Rattle.game.specs.declared.Placement.the-variants.{NoPlace}
 use Rattle.penalty.specs.Penalty.{placeForPenalty}
 use Rattle.refusals.specs.Refusals.{refusalOf}
-use Rattle.decision.specs.declared.judges.PlayerVerdict.{PlayerVerdict}
-use Rattle.decision.specs.declared.judges.KickingPlayer.{KickingPlayer}
-use Rattle.decision.specs.declared.judges.KickingPlayer.the-variants.{NoKicker, Kicker}
-use Rattle.decision.specs.declared.call.SideDecision.{SideDecision}
-use Rattle.decision.specs.declared.call.Decision.{Decision}
+use Rattle.game.specs.declared.PlayerVerdict.{PlayerVerdict}
+use Rattle.game.specs.declared.KickingPlayer.{KickingPlayer}
+use Rattle.game.specs.declared.KickingPlayer.the-variants.{NoKicker, Kicker}
+use Rattle.game.specs.declared.SideDecision.{SideDecision}
+use Rattle.game.specs.declared.Decision.{Decision}
 use Rattle.decision.specs.declared.call.Answer.{Answer}
 
 -- ---- each player's verdict, Legal too
--- the verdict on a player of a side with this goalkeeper, at the place i, so that its number is i + 1
-unfoldable pub verdictOn : Game → FieldDimensions → Ball → Side → MaybeNumber → Player → MaybeMargins → ℕ → PlayerVerdict
-verdictOn g f b side keeper p margins i = record { verdict = isIllegallyPositioned g f b side keeper (numberAt i) p margins }
-
--- the verdict on the player at the place i
+-- the verdict on the player at the place i, whose number is i + 1
 abbrev pub verdictAt : Game → FieldDimensions → Ball → Side → Team → List PlayerMargins → ℕ → PlayerVerdict
-verdictAt g f b side t margins i = verdictOn g f b side (t .goalkeeper) (playerAt t i) (marginsAt margins i) i
+verdictAt g f b side t margins i = record { verdict = isIllegallyPositioned g f b side (t .goalkeeper) (numberAt i) (playerAt t i) (marginsAt margins i) }
 
 -- the verdicts on a side's players by their places
 unfoldable pub teamVerdicts : Game → FieldDimensions → Ball → Side → Team → List PlayerMargins → List PlayerVerdict
@@ -81,14 +76,10 @@ abbrev pub kickerNumbered : Side → MaybeNumber → KickingPlayer
 kickerNumbered side NoNumber = NoKicker
 kickerNumbered side (Number n) = Kicker side n
 
--- the one of a side that kicks
-unfoldable pub sideKicker : Game → Team → FieldDimensions → List PlayerMargins → Side → KickingPlayer
-sideKicker g t f margins side = kickerNumbered side (determineKickingPlayer g t f margins side)
-
 -- by the side that kicks
 abbrev pub kickerOf : Side → Game → Team → Team → FieldDimensions → List PlayerMargins → List PlayerMargins → KickingPlayer
-kickerOf Home g home away f homeMargins awayMargins = sideKicker g home f homeMargins Home
-kickerOf Away g home away f homeMargins awayMargins = sideKicker g away f awayMargins Away
+kickerOf Home g home away f homeMargins awayMargins = kickerNumbered Home (determineKickingPlayer g home f homeMargins Home)
+kickerOf Away g home away f homeMargins awayMargins = kickerNumbered Away (determineKickingPlayer g away f awayMargins Away)
 
 -- none without a kicking side
 abbrev pub kickerIfAny : MaybeSide → Game → Team → Team → FieldDimensions → List PlayerMargins → List PlayerMargins → KickingPlayer
@@ -114,32 +105,20 @@ ballCalled s =
     ballJudgment (s .game) (s .field) (s .ball) (s .«last_contact») (s .restart) (s .«invalid_goals_judged») (s .«ball_rested») (playersOnField (s .home)) (playersOnField (s .away))
 
 -- ---- the place wished for, or none
--- of the ball at a restart
-unfoldable pub restartPlaceOf : Situation → Placement
-restartPlaceOf s = ballAtRestart (s .game) (s .field) (s .ball)
-
--- of the ball in Set
-unfoldable pub setPlaceOf : Situation → Placement
-setPlaceOf s = ballInSet (s .game) (s .field)
-
--- of a penalised player, the earlier places of the batch given
-unfoldable pub penaltyPlaceOf : Situation → List Float → List Float → Side → ℕ → Placement
-penaltyPlaceOf s xs ys side number = placeForPenalty (s .game .sides) (s .field) (s .«penalty_placement_distance») (s .home) (s .away) xs ys side number
-
 -- of a player selected for a penalty shot
-unfoldable pub shotPlaceOf : Situation → Side → ℕ → Placement
+abbrev pub shotPlaceOf : Situation → Side → ℕ → Placement
 shotPlaceOf s side number = penaltyShotPlace (s .game) (s .field) side number (playerNumbered (teamOf s side) number)
 
 -- of a side's goalkeeper
-unfoldable pub goalkeeperPlaceOf : Situation → Side → Placement
+abbrev pub goalkeeperPlaceOf : Situation → Side → Placement
 goalkeeperPlaceOf s side = penaltyGoalkeeperPlace (s .game) (s .field) side (teamOf s side)
 
--- by the wish
+-- by the wish, the earlier places of the batch given
 abbrev pub placeFor : Wish → Situation → List Float → List Float → Placement
 placeFor Nothing s xs ys = NoPlace
-placeFor BallAtRestart s xs ys = restartPlaceOf s
-placeFor BallInSet s xs ys = setPlaceOf s
-placeFor (ForPenalty side number) s xs ys = penaltyPlaceOf s xs ys side number
+placeFor BallAtRestart s xs ys = ballAtRestart (s .game) (s .field) (s .ball)
+placeFor BallInSet s xs ys = ballInSet (s .game) (s .field)
+placeFor (ForPenalty side number) s xs ys = placeForPenalty (s .game .sides) (s .field) (s .«penalty_placement_distance») (s .home) (s .away) xs ys side number
 placeFor (ForPenaltyShot side number) s xs ys = shotPlaceOf s side number
 placeFor (Goalkeeper side) s xs ys = goalkeeperPlaceOf s side
 
@@ -201,8 +180,3 @@ emptyDecision = record { home = emptySide; away = emptySide; kicker = NoKicker; 
 unfoldable pub answerOf : Situation → List Float → List Float → Answer
 answerOf s xs ys =
     record { refusal = refusalOf s xs ys; decision = cond (eqb (refusalOf s xs ys) 0) (decisionOf s xs ys) emptyDecision }
-
--- ---- of the private functions
--- which players leave the field
-abbrev pub leavingFlags : Team → FieldDimensions → List Bool
-leavingFlags t f = table 20 (λ i. isLeaving (playerAt t i) f)

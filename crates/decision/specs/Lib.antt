@@ -1,2 +1,4 @@
 pub mod Decision
+pub mod Fit
+pub mod Changed
 pub mod HalfTurn

@@ -1,39 +1,22 @@
 // A decision: every item of document 01 for one situation, or the number of the refusal.
 ghost use mathlib.Core.Path.{_≡_};
 ghost use Rattle.decision.specs.Decision as Spec;
-use super::judges::KickingPlayer;
-use super::judges::PlayerVerdict;
-use autoreferee::BallJudgment;
-use autoreferee::Placement;
-use autoreferee::PlayerReference;
 use game::Ball;
+use game::BallJudgment;
+use game::Decision;
 use game::FieldDimensions;
 use game::Game;
-use game::PlayerList;
+use game::KickingPlayer;
+use game::Placement;
 use game::PlayerMargins;
+use game::PlayerReference;
+use game::PlayerVerdict;
+use game::Positioning;
 use game::ReferencePose;
 use game::Side;
+use game::SideDecision;
 use game::Situation;
 use game::Team;
-use positioning::Positioning;
-
-// The items that each side has of its own.
-pub struct SideDecision {
-    pub verdicts: [PlayerVerdict; 20],
-    pub excess: PlayerList,
-    pub leaving: PlayerList,
-    pub moved: PlayerList,
-    pub references: [PlayerReference; 20],
-}
-
-// The items of a decision.
-pub struct Decision {
-    pub home: SideDecision,
-    pub away: SideDecision,
-    pub kicker: KickingPlayer,
-    pub ball: BallJudgment,
-    pub place: Placement,
-}
 
 // The number of the refusal, or 0 beside the decision; a refusal gives the empty one.
 pub struct Answer {
@@ -55,7 +38,7 @@ fn team_decision(
     let verdicts = super::judges::team_verdicts(game, field, ball, side, team, margins);
     let excess = super::judges::team_excess(game, team, margins);
     let leaving = super::judges::leaving_players(team, field);
-    let motion = autoreferee::check_motion(team);
+    let motion = motion::check_motion(team);
     let moved = motion.moved;
     let references = motion.references;
     SideDecision {
@@ -108,9 +91,9 @@ fn judged<'a>(s: Situation, xs: &'a [f32], ys: &'a [f32]) -> Decision
     }
 }
 
-// Every verdict Legal, no lists and no references.
-fn empty_side() -> SideDecision
-    ensures { λ r. ⌜ r ≡ Spec.emptySide ⌝ }
+// The decision beside a refusal: of each side every verdict Legal, no lists and no references.
+fn empty_decision() -> Decision
+    ensures { λ r. ⌜ r ≡ Spec.emptyDecision ⌝ }
 {
     let legal = Positioning::Legal;
     let verdict = PlayerVerdict { verdict: legal };
@@ -118,30 +101,20 @@ fn empty_side() -> SideDecision
     let none = ReferencePose::NoReference;
     let reference = PlayerReference { reference: none };
     let references = [reference; 20];
-    let excess = super::judges::empty_list();
-    let leaving = super::judges::empty_list();
-    let moved = super::judges::empty_list();
-    SideDecision {
+    let nobody = super::judges::empty_list();
+    let side = SideDecision {
         verdicts,
-        excess,
-        leaving,
-        moved,
+        excess: nobody,
+        leaving: nobody,
+        moved: nobody,
         references,
-    }
-}
-
-// The decision beside a refusal.
-fn empty_decision() -> Decision
-    ensures { λ r. ⌜ r ≡ Spec.emptyDecision ⌝ }
-{
-    let home = empty_side();
-    let away = empty_side();
+    };
     let kicker = KickingPlayer::NoKicker;
     let ball = BallJudgment::NoJudgment;
     let place = Placement::NoPlace;
     Decision {
-        home,
-        away,
+        home: side,
+        away: side,
         kicker,
         ball,
         place,

@@ -3,15 +3,10 @@ mod call;
 mod judges;
 
 pub use call::Answer;
-pub use call::Decision;
-pub use call::SideDecision;
 pub use call::decide;
-pub use judges::KickingPlayer;
-pub use judges::PlayerVerdict;
 pub use judges::ball_judgment;
 pub use judges::kicking_player;
 pub use judges::leaving_players;
 pub use judges::team_excess;
 pub use judges::team_verdicts;
 pub use judges::wished_place;
-pub use refusals::refusal;

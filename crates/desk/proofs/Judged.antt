@@ -2,34 +2,50 @@
 use mathlib.Core.Path.{_≡_, refl, sym, ap, ap₂, _∙_}
 use mathlib.Core.Bool.{Bool, true, false, cond}
 use mathlib.Core.List.{List}
-use Prim.Native.Nat.{ℕ, _+_, _-_, _≤_, _<_, min}
+use Prim.Native.Nat.{ℕ, _+_, _≤_, _<_, min}
 use native.Mathlib.Omega.{arith}
-use lib.Dec.{eqb, ltb, lit≤}
+use lib.Dec.{eqb, ltb}
 use lib.Ieee.{Float, binary32, ofBits}
 use lib.ListN.{length, take, drop, getD, replicate, length-append, length-take, length-drop, length-replicate}
-use lib.Seq.{take-at, getD-take, getD-drop, length-take-le}
-use Rattle.lists.specs.Put.{fronted}
+use lib.Seq.{take-at, getD-take, getD-drop}
+use Rattle.lists.specs.Put.{fronted, frontedInto}
 use Rattle.lists.specs.Table.{table}
 use Rattle.lists.proofs.Table.{length-table, table-same}
 use Rattle.game.specs.declared.Situation.{Situation}
 use Rattle.refusals.specs.Refusals.{refusalOf}
 use Rattle.decision.specs.Decision.{decisionOf}
 use Rattle.replies.specs.Replies.{refusedLine, lineIn, writtenIn}
-use Rattle.sheet.specs.Sheet.{textOf, decisionAnswer, decisionSheet, sheetAnswer, sheetAfter}
+use Rattle.call.specs.Call.{sheetAnswer, sheetAfter}
+use Rattle.call.proofs.Answers.{answer-cases, after-told}
+use Rattle.sheet.specs.Sheet.{textOf}
 use Rattle.sheet.specs.declared.text.SheetAnswer.{SheetAnswer}
 use Rattle.sheet.specs.declared.text.SheetAnswer.the-variants.{Refused, Written}
 use Rattle.numbers.specs.Numbers.{numbersOf, stored}
 use Rattle.words.specs.Words.{situationOf}
-use Rattle.input.specs.Input.{inputOf, placesIn}
+use Rattle.columns.specs.Layout.{wordCount}
+use Rattle.input.specs.Input.{firstX, firstY, numbersFor, mostNumbers, inputOf, placesIn}
 use Rattle.input.specs.declared.Input.{Input}
 use Rattle.input.specs.declared.Input.the-variants.{Read}
 use Rattle.input.proofs.Places.{parts}
 use Rattle.input.proofs.Stored.{stored-at, stored-front}
-use Rattle.desk.specs.Desk.{answerText, situationText, placesFrom, numbersText, inputText, judgedText, replyLength, replyOut}
+use Rattle.desk.specs.Desk.{answerText, situationText, placesFrom, numbersText, inputText, judgedText}
+
+-- what the code adds to bytes that already hold the sheet of the answer
+abbrev replyLength : SheetAnswer → List ℕ → ℕ
+replyLength (Refused n) out = writtenIn (refusedLine n) out
+replyLength (Written n) out = n
+
+abbrev replyOut : SheetAnswer → List ℕ → List ℕ
+replyOut (Refused n) out = lineIn (refusedLine n) out
+replyOut (Written n) out = out
 
 -- what is told, and the bytes after it
 abbrev Told : ℕ → List ℕ → List ℕ → List ℕ → Type 0
 Told n next text out = (n ≡ writtenIn text out) × (next ≡ lineIn text out)
+
+-- the same text told of another description of it
+pub told-as : (text same out next : List ℕ) (n : ℕ) → text ≡ same → Told n next text out → Told n next same out
+told-as text same out next n e t = (t .0 ∙ ap (λ (u : List ℕ). writtenIn u out) e, t .1 ∙ ap (λ (u : List ℕ). lineIn u out) e)
 
 module _ (s : Situation) (xs ys : List Float) (out : List ℕ) where
   text : List ℕ
@@ -39,7 +55,7 @@ module _ (s : Situation) (xs ys : List Float) (out : List ℕ) where
       → (let a = cond b (cond f (Refused 7) (Written (length text))) (Refused (refusalOf s xs ys)) in
       let mid = cond b (cond f out (fronted text out)) out in
       Told (replyLength a mid) (replyOut a mid) (answerText a text) out)
-  unfolding text writtenIn lineIn
+  unfolding text writtenIn frontedInto
   told false f eb ef = (refl, refl)
   told true true eb ef = (refl, refl)
   told true false eb ef = (ap (λ (b : Bool). cond b 0 (length text)) (sym ef), ap (λ (b : Bool). cond b out (fronted text out)) (sym ef))
@@ -47,10 +63,13 @@ module _ (s : Situation) (xs ys : List Float) (out : List ℕ) where
   -- the sheet's answer and bytes, and what the reply makes of them
   pub reply-told : (a : SheetAnswer) (mid next : List ℕ) (n : ℕ) → a ≡ sheetAnswer s xs ys (length out) → mid ≡ sheetAfter s xs ys out → n ≡ replyLength a mid → next ≡ replyOut a mid
       → Told n next (situationText s xs ys (length out)) out
-  unfolding text sheetAnswer sheetAfter decisionAnswer decisionSheet situationText
+  unfolding text frontedInto situationText
   reply-told a mid next n ea em en ex =
       let t = told (eqb (refusalOf s xs ys) 0) (ltb (length out) (length text)) refl refl in
-      (en ∙ ap₂ replyLength ea em ∙ t .0, ex ∙ ap₂ replyOut ea em ∙ t .1)
+      let cases = answer-cases s xs ys (length out) in
+      let answer = ea ∙ cases in
+      let bytes = em ∙ after-told s xs ys out in
+      told-as _ _ out next n (ap (λ (z : SheetAnswer). answerText z text) (sym cases)) (en ∙ ap₂ replyLength answer bytes ∙ t .0, ex ∙ ap₂ replyOut answer bytes ∙ t .1)
 
 -- ---- the earlier places among the numbers
 -- the floats of a part of the numbers, taken from the front of the places that hold them
@@ -65,20 +84,16 @@ places-told ns from n k xs₀ xs same e room low =
     ∙ ap (λ (m : ℕ). table m f) count
     ∙ table-same n f (λ i. ofBits binary32 (getD ns (from + i) 0)) (λ i h. ap (ofBits binary32) (getD-take k (drop from ns) i 0 (omega (arith, same, h)) ∙ getD-drop from ns i 0))
 
--- the same text told of another description of it
-pub told-as : (text same out next : List ℕ) (n : ℕ) → text ≡ same → Told n next text out → Told n next same out
-told-as text same out next n e t = (t .0 ∙ ap (λ (u : List ℕ). writtenIn u out) e, t .1 ∙ ap (λ (u : List ℕ). lineIn u out) e)
-
 pub text-same : (s s' : Situation) (xs xs' ys ys' : List Float) (lent : ℕ) → s ≡ s' → xs ≡ xs' → ys ≡ ys' → situationText s xs ys lent ≡ situationText s' xs' ys' lent
 text-same s s' xs xs' ys ys' lent a b c =
     ap (λ (z : Situation). situationText z xs ys lent) a ∙ ap₂ (λ (v w : List Float). situationText s' v w lent) b c
 
--- the numbers stay 8,759
-pub stored-long : (ns ms : List ℕ) → ms ≡ stored ns (replicate 8759 0) → length ms ≡ 8759
+-- the numbers stay as many
+pub stored-long : (ns ms : List ℕ) → ms ≡ stored ns (replicate mostNumbers 0) → length ms ≡ mostNumbers
 unfolding stored fronted
 stored-long ns ms e =
-    let buffer : List ℕ = replicate 8759 0 in
-    let long : length buffer ≡ 8759 = length-replicate {A = ℕ} 8759 0 in
+    let buffer : List ℕ = replicate mostNumbers 0 in
+    let long : length buffer ≡ mostNumbers = length-replicate {A = ℕ} mostNumbers 0 in
     let front : List ℕ = take (length buffer) ns in
     omega (arith, ap length e, long, length-append front (drop (length front) buffer), length-take (length buffer) ns, length-drop (length front) buffer)
 
@@ -92,18 +107,18 @@ pub fault-told : (text out next : List ℕ) (n : ℕ) (r i : Input) → r ≡ in
 fault-told text out next n r i e f t = told-as (inputText i (numbersOf text) (length out)) (judgedText text (length out)) out next n (judged-as text (length out) i (sym e ∙ f)) t
 
 -- a situation, read from the numbers that were stored
-pub judged-read : (text ms : List ℕ) (nx ny lent : ℕ) → inputOf text ≡ Read nx ny → ms ≡ stored (numbersOf text) (replicate 8759 0) → numbersText ms nx ny lent ≡ judgedText text lent
+pub judged-read : (text ms : List ℕ) (nx ny lent : ℕ) → inputOf text ≡ Read nx ny → ms ≡ stored (numbersOf text) (replicate mostNumbers 0) → numbersText ms nx ny lent ≡ judgedText text lent
 unfolding numbersText placesFrom
 judged-read text ms nx ny lent e m =
     let p = parts text nx ny e in
     let ns = numbersOf text in
-    let buffer : List ℕ = replicate 8759 0 in
-    let long : length buffer ≡ 8759 = length-replicate {A = ℕ} 8759 0 in
-    let words : take 563 ms ≡ take 563 ns = ap (take 563) m ∙ stored-front ns buffer 563 (omega (arith, p .whole)) (lit≤ tt) in
-    let at : (k : ℕ) → k < 565 + nx + ny → getD ms k 0 ≡ getD ns k 0 =
+    let buffer : List ℕ = replicate mostNumbers 0 in
+    let long : length buffer ≡ mostNumbers = length-replicate {A = ℕ} mostNumbers 0 in
+    let words : take wordCount ms ≡ take wordCount ns = ap (take wordCount) m ∙ stored-front ns buffer wordCount (omega (arith, p .whole)) (omega (arith, long)) in
+    let at : (k : ℕ) → k < numbersFor nx ny → getD ms k 0 ≡ getD ns k 0 =
     λ k h. ap (λ (l : List ℕ). getD l k 0) m ∙ stored-at ns buffer k (omega (arith, h, p .whole)) (omega (arith, h, p .few-x, p .few-y, long)) in
-    let float : (k : ℕ) → k < 565 + nx + ny → ofBits binary32 (getD ms k 0) ≡ ofBits binary32 (getD ns k 0) = λ k h. ap (ofBits binary32) (at k h) in
+    let float : (k : ℕ) → k < numbersFor nx ny → ofBits binary32 (getD ms k 0) ≡ ofBits binary32 (getD ns k 0) = λ k h. ap (ofBits binary32) (at k h) in
     text-same _ _ _ _ _ _ lent (ap situationOf words)
-    (table-same nx (λ k. ofBits binary32 (getD ms (564 + k) 0)) (λ k. ofBits binary32 (getD ns (564 + k) 0)) (λ k h. float (564 + k) (omega (arith, h))))
-    (table-same ny (λ k. ofBits binary32 (getD ms (565 + nx + k) 0)) (λ k. ofBits binary32 (getD ns (565 + nx + k) 0)) (λ k h. float (565 + nx + k) (omega (arith, h))))
+    (table-same nx (λ k. ofBits binary32 (getD ms (firstX + k) 0)) (λ k. ofBits binary32 (getD ns (firstX + k) 0)) (λ k h. float (firstX + k) (omega (arith, h))))
+    (table-same ny (λ k. ofBits binary32 (getD ms (firstY + nx + k) 0)) (λ k. ofBits binary32 (getD ns (firstY + nx + k) 0)) (λ k h. float (firstY + nx + k) (omega (arith, h))))
     ∙ judged-as text lent (Read nx ny) e

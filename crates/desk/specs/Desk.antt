@@ -6,13 +6,15 @@ use lib.ListN.{getD, take}
 use Rattle.lists.specs.Table.{table}
 use Rattle.game.specs.declared.Situation.{Situation}
 use Rattle.numbers.specs.Numbers.{numbersOf}
-use Rattle.input.specs.Input.{inputOf}
+use Rattle.columns.specs.Layout.{wordCount}
+use Rattle.input.specs.Input.{firstX, firstY, inputOf}
 use Rattle.input.specs.declared.Input.{Input}
 use Rattle.input.specs.declared.Input.the-variants.{Read, NotANumber, TooLarge, Outside, LongList, Missing, Extra}
 use Rattle.words.specs.Words.{situationOf}
 use Rattle.decision.specs.Decision.{decisionOf}
-use Rattle.replies.specs.Replies.{numberLine, refusedLine, lineIn, writtenIn}
-use Rattle.sheet.specs.Sheet.{textOf, sheetAnswer}
+use Rattle.replies.specs.Replies.{numberLine, refusedLine}
+use Rattle.call.specs.Call.{sheetAnswer}
+use Rattle.sheet.specs.Sheet.{textOf}
 use Rattle.sheet.specs.declared.text.SheetAnswer.{SheetAnswer}
 use Rattle.sheet.specs.declared.text.SheetAnswer.the-variants.{Refused, Written}
 
@@ -53,9 +55,9 @@ answerText (Written n) text = text
 unfoldable pub situationText : Situation → List Float → List Float → ℕ → List ℕ
 situationText s xs ys lent = answerText (sheetAnswer s xs ys lent) (textOf (decisionOf s xs ys))
 
--- of numbers: 563 words, the number of earlier x and their patterns, the number of earlier y and theirs
+-- of numbers: the words, the number of earlier x and their patterns, the number of earlier y and theirs
 unfoldable pub numbersText : List ℕ → ℕ → ℕ → ℕ → List ℕ
-numbersText ns nx ny lent = situationText (situationOf (take 563 ns)) (placesFrom ns 564 nx) (placesFrom ns (565 + nx) ny) lent
+numbersText ns nx ny lent = situationText (situationOf (take wordCount ns)) (placesFrom ns firstX nx) (placesFrom ns (firstY + nx) ny) lent
 
 -- by what the text is
 abbrev pub inputText : Input → List ℕ → ℕ → List ℕ
@@ -70,13 +72,3 @@ inputText (Extra k) ns lent = numberLine k extra
 -- what is printed
 unfoldable pub judgedText : List ℕ → ℕ → List ℕ
 judgedText text lent = inputText (inputOf text) (numbersOf text) lent
-
--- ---- of the private functions
--- what a reply adds to bytes that already hold the sheet of the answer
-abbrev pub replyLength : SheetAnswer → List ℕ → ℕ
-replyLength (Refused n) out = writtenIn (refusedLine n) out
-replyLength (Written n) out = n
-
-abbrev pub replyOut : SheetAnswer → List ℕ → List ℕ
-replyOut (Refused n) out = lineIn (refusedLine n) out
-replyOut (Written n) out = out

@@ -1,46 +1,43 @@
 // What the program `judge` prints for what it reads: a sheet, a refusal, or what is wrong with the input.
 ghost use mathlib.Core.Path.{_≡_};
-ghost use Prim.Native.Nat.{_+_, _≤_};
+ghost use Prim.Native.Nat.{_≤_};
 ghost use lib.ListN.{length};
+ghost use Rattle.input.specs.Input.{mostPlaces, numbersFor};
 ghost use Rattle.replies.specs.Replies.{lineIn, writtenIn};
-ghost use Rattle.sheet.specs.Sheet.{bytesIn};
 ghost use Rattle.desk.specs.Desk as Spec;
+use columns::layout::WORDS;
 use game::Situation;
+use input::FIRST_X;
+use input::FIRST_Y;
 use input::Input;
+use input::NUMBERS;
+use input::PLACES;
 use sheet::SheetAnswer;
-
-// The number of bytes written, after the line of the refusal where there is one.
-fn reply(answer: SheetAnswer, out: &mut [u8]) -> usize
-    ensures { λ r. ⌜ r ≡ Spec.replyLength answer (now (out .entry)) ⌝ }
-    ensures { λ _. ⌜ now (out .exit) ≡ Spec.replyOut answer (now (out .entry)) ⌝ }
-{
-    match answer {
-        SheetAnswer::Refused(n) => replies::refused_line(n, out),
-        SheetAnswer::Written(n) => n,
-    }
-}
 
 // Decides on a situation: its sheet, or the line of its refusal.
 fn judge_situation<'a>(s: Situation, xs: &'a [f32], ys: &'a [f32], out: &mut [u8]) -> usize
     ensures { λ r. ⌜ r ≡ writtenIn (Spec.situationText s (now (xs .entry)) (now (ys .entry)) (length (now (out .entry)))) (now (out .entry)) ⌝ }
     ensures { λ _. ⌜ now (out .exit) ≡ lineIn (Spec.situationText s (now (xs .entry)) (now (ys .entry)) (length (now (out .entry)))) (now (out .entry)) ⌝ }
 {
-    let answer = sheet::write_sheet(s, xs, ys, out);
-    reply(answer, out)
+    let answer = call::write_sheet(s, xs, ys, out);
+    match answer {
+        SheetAnswer::Refused(n) => replies::refused_line(n, out),
+        SheetAnswer::Written(n) => n,
+    }
 }
 
 // The same of a situation as numbers, of which nx are earlier x and ny earlier y.
 fn judge_numbers(numbers: &[u32], nx: usize, ny: usize, out: &mut [u8]) -> usize
-    requires { ⌜ (nx ≤ 4097) × (ny ≤ 4097) × (565 + nx + ny ≤ length (now numbers)) ⌝ }
+    requires { ⌜ (nx ≤ mostPlaces) × (ny ≤ mostPlaces) × (numbersFor nx ny ≤ length (now numbers)) ⌝ }
     ensures { λ r. ⌜ r ≡ writtenIn (Spec.numbersText (now (numbers .entry)) nx ny (length (now (out .entry)))) (now (out .entry)) ⌝ }
     ensures { λ _. ⌜ now (out .exit) ≡ lineIn (Spec.numbersText (now (numbers .entry)) nx ny (length (now (out .entry)))) (now (out .entry)) ⌝ }
 {
-    let mut xs = [0.0f32; 4097];
-    let mut ys = [0.0f32; 4097];
-    let from = 565 + nx;
-    input::fill_places(&numbers[564..564 + nx], &mut xs);
+    let mut xs = [0.0f32; PLACES];
+    let mut ys = [0.0f32; PLACES];
+    let from = FIRST_Y + nx;
+    input::fill_places(&numbers[FIRST_X..FIRST_X + nx], &mut xs);
     input::fill_places(&numbers[from..from + ny], &mut ys);
-    let s = words::situation_of(&numbers[..563]);
+    let s = words::situation_of(&numbers[..WORDS]);
     judge_situation(s, &xs[..nx], &ys[..ny], out)
 }
 
@@ -50,7 +47,7 @@ pub fn judge(text: &[u8], out: &mut [u8]) -> usize
     ensures { λ r. ⌜ r ≡ writtenIn (Spec.judgedText (now (text .entry)) (length (now (out .entry)))) (now (out .entry)) ⌝ }
     ensures { λ _. ⌜ now (out .exit) ≡ lineIn (Spec.judgedText (now (text .entry)) (length (now (out .entry)))) (now (out .entry)) ⌝ }
 {
-    let mut numbers = [0u32; 8759];
+    let mut numbers = [0u32; NUMBERS];
     let input = input::read_input(text, &mut numbers);
     match input {
         Input::Read(nx, ny) => judge_numbers(&numbers, nx, ny, out),

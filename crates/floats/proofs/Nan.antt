@@ -13,11 +13,11 @@ pub nan-pattern : (x : Float) → ne x x ≡ true → toBits binary32 x ≡ 0x7f
 unfolding toBits
 nan-pattern x e = ap (toBits binary32) (differs-from-itself x (subst T (sym e) tt))
 
-pub no-nan : (x : Float) → ne x x ≡ false → T (not (isNan x))
+pub not-unequal : (x : Float) → ne x x ≡ false → T (not (isNan x))
 unfolding isNan ne
-no-nan nan e = absurd (subst T e tt)
-no-nan (inf s) e = tt
-no-nan (fin s m d) e = tt
+not-unequal nan e = absurd (subst T e tt)
+not-unequal (inf s) e = tt
+not-unequal (fin s m d) e = tt
 
 pub equals-itself : (x : Float) → eq x x ≡ true → T (not (isNan x))
 unfolding eq isNan
@@ -34,7 +34,7 @@ is-nan-is x = go (ne x x) refl
   where
     go : (b : Bool) → ne x x ≡ b → b ≡ isNan x
     go true e = sym (ap isNan (differs-from-itself x (subst T (sym e) tt)) ∙ nan-is-nan)
-    go false e = sym (is-false (isNan x) (no-nan x e))
+    go false e = sym (is-false (isNan x) (not-unequal x e))
 
 -- there is one NaN
 pub nan-is : (x : Float) → isNan x ≡ true → x ≡ nan

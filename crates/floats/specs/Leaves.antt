@@ -1,7 +1,7 @@
 -- The small functions on floats, over the values of `lib.Ieee`. There is one `nan`, which has no sign: where a sign or an order is asked of it,
 -- it counts as not negative and above +inf, as the pattern that `toBits` writes for it. Definitions only.
 use Prim.Native.Nat.{ℕ, _+_, _-_, compare, Ordering}
-use mathlib.Core.Bool.{Bool, true, false, cond}
+use mathlib.Core.Bool.{Bool, false, cond}
 use lib.IntN.{pos}
 use lib.Dec.{leb}
 use lib.Ieee.{Float, nan, inf, fin, binary32, isNan, lt, le, rem, add, toBits, ofBits, ofInt}

@@ -1,10 +1,6 @@
 pub mod Arithmetic
 pub mod Leaves
 pub mod Compare
-pub mod Hypot
-pub mod Nearest
-pub mod Steps
 pub mod Values
 pub mod Height
 pub mod Near
-pub mod Candidates

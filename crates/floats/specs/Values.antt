@@ -1,11 +1,12 @@
 -- Kinds of values that the laws speak of. Definitions only.
 use mathlib.Core.Path.{_≡_}
 use mathlib.Core.Logic.{_⊎_}
-use mathlib.Core.Bool.{not, false}
+use mathlib.Core.Bool.{not, true, false}
 use lib.IntN.{pos}
 use lib.Dec.{T}
-use lib.Ieee.{Float, fin, Format, fits, isNan}
+use lib.Ieee.{Float, fin, Format, binary32, neg, le, fits, isNan}
 use lib.Ieee.Scale
+use Rattle.floats.specs.Arithmetic.{sixtyFour}
 use Rattle.floats.specs.Leaves.{abs}
 
 -- +0
@@ -25,3 +26,9 @@ pub record Number (f : Format) (x : Float) : Type 0 where
 pub record Finite (f : Format) (x : Float) : Type 0 where
   pub fit : T (fits f x)
   pub finite : T (lib.Ieee.Scale.finite x)
+
+-- from -64 to 64
+pub record Within (v : Float) : Type 0 where
+  pub number : Number binary32 v
+  pub lowest : le (neg sixtyFour) v ≡ true
+  pub highest : le v sixtyFour ≡ true

@@ -1,2 +1,3 @@
 pub mod Game
 pub mod Players
+pub mod Codes

@@ -1,7 +1,7 @@
 -- The players of a side by their place, which is the number less one. Definitions only.
 use mathlib.Core.Bool.{Bool, false}
 use mathlib.Core.List.{List}
-use Prim.Native.Nat.{ℕ, _+_}
+use Prim.Native.Nat.{ℕ, zero, suc, _+_}
 use lib.ListN.{getD, length, replicate}
 use lib.Ieee.{nan}
 use Rattle.game.specs.declared.Side.{Side}
@@ -29,9 +29,25 @@ playerAt t i = getD (t .players) i nobody
 abbrev pub marginsAt : List PlayerMargins → ℕ → MaybeMargins
 marginsAt ms i = getD ms i (record { margins = NoMargins }) .margins
 
+-- the least number of a player and the greatest, as PlayerNumber::MIN and MAX
+abbrev pub minNumber : ℕ
+minNumber = 1
+
+abbrev pub maxNumber : ℕ
+maxNumber = 20
+
+-- the player with a number; nobody has the number 0
+abbrev pub playerNumbered : Team → ℕ → Player
+playerNumbered t zero = nobody
+playerNumbered t (suc i) = playerAt t i
+
+-- of two teams the one of a side
+abbrev pub teamOfSide : Team → Team → Side → Team
+teamOfSide home away Home = home
+teamOfSide home away Away = away
+
 abbrev pub teamOf : Situation → Side → Team
-teamOf s Home = s .home
-teamOf s Away = s .away
+teamOf s side = teamOfSide (s .home) (s .away) side
 
 -- the numbers l as a counted array
 unfoldable pub listed : List ℕ → PlayerList

@@ -1,4 +1,4 @@
-// The used types of types.rs and lib.rs, and the situation that a decision is asked of. Everything goes by value.
+// The used types of types.rs and lib.rs: the situation that a decision is asked of, and the decision. Everything goes by value.
 // Each "or none" is an enum whose empty case stands first, so that it is the value past the end of an array.
 ghost use mathlib.Core.Path.{_≡_};
 ghost use mathlib.Core.Bool.{false};
@@ -223,6 +223,71 @@ pub struct PlayerList {
     pub numbers: [u8; 20],
 }
 
+// The result of checking the position of a player.
+pub enum Positioning {
+    Legal,
+    Illegal,
+    IllegalUnlessKicker,
+    InAvoidanceRegion,
+}
+
+// An element of a side's list of verdicts.
+pub struct PlayerVerdict {
+    pub verdict: Positioning,
+}
+
+// An element of a side's list of reference poses.
+pub struct PlayerReference {
+    pub reference: ReferencePose,
+}
+
+// The player that is allowed to take the kick.
+pub enum KickingPlayer {
+    NoKicker,
+    Kicker(Side, u8),
+}
+
+// What is called, for a side where it is for one.
+pub enum BallJudgment {
+    NoJudgment,
+    Goal(Side),
+    GoalKick(Side),
+    CornerKick(Side),
+    ThrowIn(Side),
+    EndOfPenaltyShot,
+}
+
+// A place for the ball, its x, y and z, or for a player, its x, y and heading.
+pub enum Placement {
+    NoPlace,
+    BallAt(f32, f32, f32),
+    PlayerAt {
+        side: Side,
+        number: u8,
+        x: f32,
+        y: f32,
+        theta: f32,
+    },
+}
+
+// The items that each side has of its own.
+pub struct SideDecision {
+    pub verdicts: [PlayerVerdict; 20],
+    pub excess: PlayerList,
+    pub leaving: PlayerList,
+    pub moved: PlayerList,
+    pub references: [PlayerReference; 20],
+}
+
+// The items of a decision.
+pub struct Decision {
+    pub home: SideDecision,
+    pub away: SideDecision,
+    pub kicker: KickingPlayer,
+    pub ball: BallJudgment,
+    pub place: Placement,
+}
+
 // The other side.
 pub fn opponent(side: Side) -> Side
     ensures { λ r. ⌜ r ≡ Spec.opponent side ⌝ }
@@ -272,11 +337,8 @@ pub fn is_shootout(phase: Phase) -> bool
     ensures { λ r. ⌜ r ≡ Spec.isShootout phase ⌝ }
 {
     match phase {
-        Phase::FirstHalf => false,
-        Phase::SecondHalf => false,
-        Phase::FirstExtraHalf => false,
-        Phase::SecondExtraHalf => false,
         Phase::PenaltyShootout => true,
+        _ => false,
     }
 }
 
@@ -284,12 +346,8 @@ pub fn is_set(state: State) -> bool
     ensures { λ r. ⌜ r ≡ Spec.isSet state ⌝ }
 {
     match state {
-        State::Initial => false,
-        State::Ready => false,
         State::Set => true,
-        State::Playing => false,
-        State::Finished => false,
-        State::Timeout => false,
+        _ => false,
     }
 }
 
@@ -297,12 +355,8 @@ pub fn is_playing(state: State) -> bool
     ensures { λ r. ⌜ r ≡ Spec.isPlaying state ⌝ }
 {
     match state {
-        State::Initial => false,
-        State::Ready => false,
-        State::Set => false,
         State::Playing => true,
-        State::Finished => false,
-        State::Timeout => false,
+        _ => false,
     }
 }
 
@@ -311,19 +365,7 @@ pub fn is_unpenalized(penalty: Penalty) -> bool
 {
     match penalty {
         Penalty::NoPenalty => true,
-        Penalty::IllegalPositioning => false,
-        Penalty::MotionInSet => false,
-        Penalty::MotionInStop => false,
-        Penalty::LocalGameStuck => false,
-        Penalty::IncapableRobot => false,
-        Penalty::PickedUp => false,
-        Penalty::BallHolding => false,
-        Penalty::LeavingTheField => false,
-        Penalty::PlayingWithArmsHands => false,
-        Penalty::Pushing => false,
-        Penalty::Cautioned => false,
-        Penalty::SentOff => false,
-        Penalty::Substitute => false,
+        _ => false,
     }
 }
 
@@ -357,15 +399,15 @@ pub fn player_at(team: Team, i: usize) -> Player
     }
 }
 
-// The margins of the player with the number i + 1, none beyond the last one.
-pub fn margins_at(margins: [PlayerMargins; 20], i: usize) -> MaybeMargins
-    ensures { λ r. ⌜ r ≡ Players.marginsAt margins i ⌝ }
+// The player with a number; nobody has the number 0.
+pub fn player_numbered(team: Team, number: u8) -> Player
+    ensures { λ r. ⌜ r ≡ Players.playerNumbered team number ⌝ }
 {
-    if i < 20 {
-        let m = margins[i];
-        return m.margins;
+    if number == 0 {
+        return player_at(team, 20);
     }
-    MaybeMargins::NoMargins
+    let i = (number - 1) as usize;
+    player_at(team, i)
 }
 
 pub fn team_of(s: Situation, side: Side) -> Team

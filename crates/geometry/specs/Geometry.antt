@@ -1,8 +1,8 @@
 -- Where a player stands, by the dimensions of the field: binary32, each operation rounded once. Definitions only.
 use mathlib.Core.Bool.{Bool, false, _&&_, _||_}
 use mathlib.Core.List.{List}
-use lib.Ieee.{Float, binary32, neg, lt, le, ofBits}
-use Rattle.floats.specs.Arithmetic.{_+₃₂_, _-₃₂_, _*₃₂_, half, one, pi}
+use lib.Ieee.{Float, neg, lt, le}
+use Rattle.floats.specs.Arithmetic.{_+₃₂_, _-₃₂_, _*₃₂_, zero32, half, one, two, pi}
 use Rattle.floats.specs.Leaves.{abs, minimumNumber, maximumNumber, remEuclid}
 use Rattle.lists.specs.Table.{table}
 use Rattle.game.specs.Game.{isUnpenalized}
@@ -28,10 +28,6 @@ sideToSign Home HomeDefendsLeftGoal = neg one
 sideToSign Home HomeDefendsRightGoal = one
 sideToSign Away HomeDefendsLeftGoal = one
 sideToSign Away HomeDefendsRightGoal = neg one
-
--- 2
-abbrev pub two : Float
-two = ofBits binary32 0x4000_0000
 
 -- the angle less whole turns, so that it lies between -pi and pi
 abbrev pub normalizeAngle : Float → Float
@@ -96,3 +92,27 @@ isLeavingTheField player f allowance = isUnpenalized (player .penalty) && seenLe
 -- between the posts of its own goal, and over the middle of the goal line
 abbrev pub isOnOwnGoalLine : Float → PlayerPose → FieldDimensions → Bool
 isOnOwnGoalLine x p f = le (abs (p .y)) (f .«goal_width» *₃₂ half) && le (abs (x +₃₂ (f .length *₃₂ half -₃₂ f .«line_width» *₃₂ half))) (p .radius)
+
+-- a player at this distance from a point reaches into the circle of this radius about it
+abbrev pub reaches : Float → Float → PlayerPose → Bool
+reaches distance radius p = lt distance (radius +₃₂ p .radius)
+
+-- it reaches into the circle of the centre circle's size about a point at this distance
+abbrev pub inCircle : Float → FieldDimensions → PlayerPose → Bool
+inCircle distance f p = reaches distance (f .«center_circle_radius») p
+
+-- it stands on the mark at this distance
+abbrev pub onMark : Float → FieldDimensions → PlayerPose → Bool
+onMark distance f p = reaches distance (f .«mark_radius») p
+
+-- the margin is that of a player of whom a part is inside
+abbrev pub isInside : Float → Bool
+isInside margin = lt zero32 margin
+
+-- the player reaches over the halfway line
+abbrev pub inOpponentHalf : PlayerPose → FieldDimensions → Float → Bool
+inOpponentHalf p f x = lt (neg (f .«line_width» *₃₂ half +₃₂ p .radius)) x
+
+-- the x of the mark from which the kicking team shoots, as that team sees it
+abbrev pub markX : FieldDimensions → Float
+markX f = f .length *₃₂ half -₃₂ f .«penalty_mark_distance»

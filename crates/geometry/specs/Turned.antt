@@ -74,23 +74,3 @@ changedGame a g =
       «set_play» = g .«set_play»;
       «kicking_side» = g .«kicking_side»;
     }
-
--- a player, a team, the ball and the game turned half round
-abbrev pub turnedPose : PlayerPose → PlayerPose
-turnedPose = changedPose true true
-
-abbrev pub turnedPlayer : Player → Player
-turnedPlayer = changedPlayer true true
-
-abbrev pub turnedTeam : Team → Team
-turnedTeam = changedTeam true true
-
-abbrev pub turnedBall : Ball → Ball
-turnedBall = changedBall true true
-
-abbrev pub turnedGame : Game → Game
-turnedGame = changedGame true
-
--- a pose mirrored in y
-abbrev pub mirroredPose : PlayerPose → PlayerPose
-mirroredPose = changedPose false true

@@ -1,6 +1,7 @@
 // Where a player stands, by the dimensions of the field.
 ghost use mathlib.Core.Path.{_≡_};
 ghost use Rattle.geometry.specs.Geometry as Spec;
+use floats::PI;
 use game::FieldDimensions;
 use game::Margins;
 use game::MaybeMargins;
@@ -27,9 +28,6 @@ pub fn side_to_sign(side: Side, side_mapping: SideMapping) -> f32
         },
     }
 }
-
-// The f32 nearest to pi.
-const PI: f32 = 3.14159274;
 
 // The angle less whole turns, so that it lies between -pi and pi.
 pub fn normalize_angle(angle: f32) -> f32
@@ -67,23 +65,22 @@ pub fn margins_of(pose: PlayerPose, field: FieldDimensions, sign: f32) -> Margin
     }
 }
 
-// The margins of a pose, none where there is no pose.
-fn seen_margins(pose: SeenPose, field: FieldDimensions, sign: f32) -> MaybeMargins
-    ensures { λ r. ⌜ r ≡ Spec.seenMargins pose field sign ⌝ }
-{
-    match pose {
-        SeenPose::Absent => MaybeMargins::NoMargins,
-        SeenPose::Present(p) => MaybeMargins::Known(margins_of(p, field, sign)),
-    }
-}
-
-// The margins of a player.
+// The margins of a player, none where it is absent.
 fn player_margins(player: Player, field: FieldDimensions, sign: f32) -> PlayerMargins
     ensures { λ r. ⌜ r ≡ Spec.playerMargins player field sign ⌝ }
 {
     let pose = player.pose;
-    let margins = seen_margins(pose, field, sign);
-    PlayerMargins { margins }
+    match pose {
+        SeenPose::Absent => {
+            let margins = MaybeMargins::NoMargins;
+            PlayerMargins { margins }
+        }
+        SeenPose::Present(p) => {
+            let known = margins_of(p, field, sign);
+            let margins = MaybeMargins::Known(known);
+            PlayerMargins { margins }
+        }
+    }
 }
 
 // The margins of a side's players, none for an absent one.
@@ -121,25 +118,20 @@ pub fn carpet_excess(pose: PlayerPose, field: FieldDimensions) -> f32
     floats::max(x, y)
 }
 
-// Whether the pose is there, and beyond the carpet's edge by more than the allowance.
-fn seen_leaving(pose: SeenPose, field: FieldDimensions, allowance: f32) -> bool
-    ensures { λ r. ⌜ r ≡ Spec.seenLeaving pose field allowance ⌝ }
-{
-    match pose {
-        SeenPose::Absent => false,
-        SeenPose::Present(p) => carpet_excess(p, field) > allowance,
-    }
-}
-
 // Whether an unpenalised player is off the carpet by more than the allowance.
 pub fn is_leaving_the_field(player: Player, field: FieldDimensions, allowance: f32) -> bool
     ensures { λ r. ⌜ r ≡ Spec.isLeavingTheField player field allowance ⌝ }
 {
     let penalty = player.penalty;
     let pose = player.pose;
-    let unpenalized = game::is_unpenalized(penalty);
-    let leaving = seen_leaving(pose, field, allowance);
-    unpenalized & leaving
+    match pose {
+        SeenPose::Absent => false,
+        SeenPose::Present(p) => {
+            let unpenalized = game::is_unpenalized(penalty);
+            let excess = carpet_excess(p, field);
+            unpenalized & (excess > allowance)
+        }
+    }
 }
 
 // Whether a player is between the posts of its own goal and over the middle of the goal line.

@@ -4,7 +4,8 @@ use mathlib.Core.List.{List, [], _∷_, _++_}
 use Prim.Native.Nat.{ℕ, zero, suc, _+_}
 use lib.ListN.{length, replicate}
 use Rattle.lists.specs.Gather.{flatTo}
-use Rattle.columns.specs.Columns.{columns, frontTo, isThereWithin, wordsWithin}
+use Rattle.columns.specs.Layout.{wordCount, layout, columnsOf, columns}
+use Rattle.columns.specs.Columns.{frontTo, frontWithin, wordsWithin}
 use Rattle.numbers.specs.Numbers.{pieces, nonEmpty, allDigits, valueFrom, numbersIn, readingFrom}
 use Rattle.input.specs.declared.Input.{Input}
 use Rattle.input.specs.declared.Input.the-variants.{Read, NotANumber, Outside, LongList, Missing, Extra}
@@ -12,7 +13,7 @@ use Rattle.input.specs.Input.{afterCounts, afterX, afterWords, withWords
 
 -- the empty text, "x" and "5"
 short : (inputOf [] ≡ Missing 1) × (inputOf (120 ∷ []) ≡ NotANumber 1) × (inputOf (53 ∷ []) ≡ Missing 2)
-unfolding pieces nonEmpty allDigits valueFrom numbersIn readingFrom flatTo columns frontTo isThereWithin wordsWithin afterCounts afterX afterWords withWords inputOf
+unfolding pieces nonEmpty allDigits valueFrom numbersIn readingFrom flatTo layout columnsOf columns frontTo frontWithin wordsWithin afterCounts afterX afterWords withWords inputOf
 short = (refl, refl, refl)
 
 -- "0 0 .. 0 ", so many
@@ -22,17 +23,17 @@ zeros (suc n) = 48 ∷ 32 ∷ zeros n
 
 -- the 16th number, the sides, is 2
 sides : inputOf (zeros 15 ++ (50 ∷ [])) ≡ Outside 16
-unfolding pieces nonEmpty allDigits valueFrom numbersIn readingFrom flatTo columns frontTo isThereWithin wordsWithin afterCounts afterX afterWords withWords inputOf zeros
+unfolding pieces nonEmpty allDigits valueFrom numbersIn readingFrom flatTo layout columnsOf columns frontTo frontWithin wordsWithin afterCounts afterX afterWords withWords inputOf zeros
 sides = refl
 
 -- "1 7 0" after the words: one x
-one-x : inputOf (zeros 563 ++ (49 ∷ 32 ∷ 55 ∷ 32 ∷ 48 ∷ [])) ≡ Read 1 0
-unfolding pieces nonEmpty allDigits valueFrom numbersIn readingFrom flatTo columns frontTo isThereWithin wordsWithin afterCounts afterX afterWords withWords inputOf zeros
+one-x : inputOf (zeros wordCount ++ (49 ∷ 32 ∷ 55 ∷ 32 ∷ 48 ∷ [])) ≡ Read 1 0
+unfolding pieces nonEmpty allDigits valueFrom numbersIn readingFrom flatTo layout columnsOf columns frontTo frontWithin wordsWithin afterCounts afterX afterWords withWords inputOf zeros
 one-x = refl
 
 -- what numbers after the words are
 afterZeros : List ℕ → Input
-afterZeros ns = afterWords (replicate 563 0 ++ ns) (563 + length ns)
+afterZeros ns = afterWords (replicate wordCount 0 ++ ns) (wordCount + length ns)
 
 -- no list; one x and two y, and with a number less and a number more
 lists : (afterZeros (0 ∷ 0 ∷ []) ≡ Read 0 0) × (afterZeros (1 ∷ 7 ∷ 2 ∷ 8 ∷ 9 ∷ []) ≡ Read 1 2) × (afterZeros (1 ∷ 7 ∷ 2 ∷ 8 ∷ []) ≡ Missing 568) × (afterZeros (1 ∷ 7 ∷ 2 ∷ 8 ∷ 9 ∷ 9 ∷ []) ≡ Extra 569)

@@ -1,8 +1,10 @@
-// A situation from a text of decimal numbers: its 563 words, then the number of earlier x and their patterns, then the number of earlier y and theirs.
+// A situation from a text of decimal numbers: its words, then the number of earlier x and their patterns, then the number of earlier y and theirs.
+use columns::layout::WORDS;
 use numbers::Reading;
 ghost use mathlib.Core.Path.{_≡_};
-ghost use Prim.Native.Nat.{_≤_, min};
+ghost use Prim.Native.Nat.{min};
 ghost use lib.ListN.{length, take};
+ghost use Rattle.columns.specs.Layout.{wordCount};
 ghost use Rattle.columns.specs.Columns.{wordsWithin};
 ghost use Rattle.numbers.specs.Numbers.{numbersOf, stored};
 ghost use Rattle.input.specs.Input as Spec;
@@ -15,15 +17,23 @@ pub enum Input {
     TooLarge(usize),
     // A word that is none of its column's values.
     Outside(usize),
-    // The number of a list, where it is more than 4,097.
+    // The number of a list, where it is more than PLACES.
     LongList(usize),
     // The first number that is not there, and the first that is too many.
     Missing(usize),
     Extra(usize),
 }
 
-// The most numbers that an input has: 563 words, two counts and two lists of at most 4,097.
-pub const NUMBERS: usize = 8759;
+// The most earlier places of a list.
+pub const PLACES: usize = 4097;
+
+// The place of the first earlier x, after the words and the number of earlier x, and of the first earlier y where there are no earlier x.
+pub const FIRST_X: usize = WORDS + 1;
+
+pub const FIRST_Y: usize = WORDS + 2;
+
+// The most numbers that an input has: the words, two counts and two lists.
+pub const NUMBERS: usize = FIRST_Y + 2 * PLACES;
 
 fn lesser(a: usize, b: usize) -> usize
     ensures { λ r. ⌜ r ≡ min a b ⌝ }
@@ -40,68 +50,40 @@ fn count_of(number: u32) -> usize
     number as usize
 }
 
-// How many of the words that are there are within their columns, before the first that is not.
-fn words_read(numbers: &[u32], n: usize) -> usize
-    requires { ⌜ 563 ≤ length (now numbers) ⌝ }
-    ensures { λ r. ⌜ r ≡ wordsWithin (take (min n 563) (now (numbers .entry))) ⌝ }
+// The answer for n numbers: those of the words that are there must be within their columns, the number after the words is that of the earlier x, and the one after these
+// that of the earlier y.
+fn laid_out(numbers: &[u32], n: usize) -> Input
+    requires { ⌜ length (now numbers) ≡ Spec.mostNumbers ⌝ }
+    ensures { λ r. ⌜ r ≡ Spec.withWords (now (numbers .entry)) n (wordsWithin (take (min n wordCount) (now (numbers .entry)))) ⌝ }
 {
-    let there = lesser(n, 563);
-    columns::words_within(&numbers[..there])
-}
-
-// The answer for n numbers, with nx earlier x and ny earlier y.
-fn after_counts(n: usize, nx: usize, ny: usize) -> Input
-    requires { ⌜ (nx ≤ 4097) × (ny ≤ 4097) ⌝ }
-    ensures { λ r. ⌜ r ≡ Spec.afterCounts n nx ny ⌝ }
-{
-    let all = 565 + nx + ny;
+    let there = lesser(n, WORDS);
+    let w = columns::words_within(&numbers[..there]);
+    if w < there {
+        return Input::Outside(w + 1);
+    }
+    if n <= WORDS {
+        return Input::Missing(n + 1);
+    }
+    let nx = count_of(numbers[WORDS]);
+    if PLACES < nx {
+        return Input::LongList(FIRST_X);
+    }
+    let at = FIRST_X + nx;
+    if n <= at {
+        return Input::Missing(n + 1);
+    }
+    let ny = count_of(numbers[at]);
+    if PLACES < ny {
+        return Input::LongList(at + 1);
+    }
+    let all = FIRST_Y + nx + ny;
     if n < all {
         return Input::Missing(n + 1);
     }
     if all < n {
-        return Input::Extra(566 + nx + ny);
+        return Input::Extra(all + 1);
     }
     Input::Read(nx, ny)
-}
-
-// The answer for n numbers, with nx earlier x: the number after these is that of the earlier y.
-fn after_x(numbers: &[u32; NUMBERS], n: usize, nx: usize) -> Input
-    requires { ⌜ nx ≤ 4097 ⌝ }
-    ensures { λ r. ⌜ r ≡ Spec.afterX (now (numbers .entry)) n nx ⌝ }
-{
-    if n < 565 + nx {
-        return Input::Missing(n + 1);
-    }
-    let at = 564 + nx;
-    let ny = count_of(numbers[at]);
-    if 4097 < ny {
-        return Input::LongList(565 + nx);
-    }
-    after_counts(n, nx, ny)
-}
-
-// The answer for n numbers whose words are within their columns: the number after these is that of the earlier x.
-fn after_words(numbers: &[u32; NUMBERS], n: usize) -> Input
-    ensures { λ r. ⌜ r ≡ Spec.afterWords (now (numbers .entry)) n ⌝ }
-{
-    if n < 564 {
-        return Input::Missing(n + 1);
-    }
-    let nx = count_of(numbers[563]);
-    if 4097 < nx {
-        return Input::LongList(564);
-    }
-    after_x(numbers, n, nx)
-}
-
-// The answer for n numbers, of which w are words within their columns before the first that is not.
-fn with_words(numbers: &[u32; NUMBERS], n: usize, w: usize) -> Input
-    ensures { λ r. ⌜ r ≡ Spec.withWords (now (numbers .entry)) n w ⌝ }
-{
-    if w < lesser(n, 563) {
-        return Input::Outside(w + 1);
-    }
-    after_words(numbers, n)
 }
 
 // Reads the text's numbers into the lent array, as many as it has room for, and answers for them all. Of a text with a fault that is no number, those before it are stored.
@@ -111,10 +93,7 @@ pub fn read_input(text: &[u8], numbers: &mut [u32; NUMBERS]) -> Input
 {
     let reading = numbers::read_numbers(text, numbers);
     match reading {
-        Reading::Read(n) => {
-            let w = words_read(numbers, n);
-            with_words(numbers, n, w)
-        },
+        Reading::Read(n) => laid_out(numbers, n),
         Reading::NotANumber(k) => Input::NotANumber(k),
         Reading::TooLarge(k) => Input::TooLarge(k),
     }

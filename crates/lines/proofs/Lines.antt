@@ -1,19 +1,16 @@
 -- Lengths of lines, and a line from its four numbers. Assumes nothing.
-use mathlib.Core.Path.{_≡_, refl, sym, ap, subst, _∙_}
-use mathlib.Core.Bool.{Bool, cond}
+use mathlib.Core.Path.{_≡_, refl, sym, ap, _∙_}
 use mathlib.Core.List.{List, [], _∷_, _++_, append-assoc}
-use Prim.Native.Nat.{ℕ, suc, _+_, _*_, _≤_, _<_}
-use native.Mathlib.Nat.{mul-zero, mul-suc, add-comm}
+use Prim.Native.Nat.{ℕ, _*_, _≤_, _<_}
 use native.Mathlib.Omega.{arith}
-use borrow.Author.Tests.{lt-ltb, le-ltb}
-use lib.Dec.{ltb}
 use lib.ListN.{length, set, length-append}
-use Rattle.lists.specs.Put.{fronted}
+use Rattle.lists.specs.Put.{fronted, frontedInto}
+use Rattle.lists.proofs.Fronted.{into-short, into-fits}
 use Rattle.lists.proofs.Table.{length-table}
 use Rattle.lines.specs.declared.Row.{Row}
-use Rattle.lines.specs.Line.{columnByte, columnsOf, lineOf, linesOf, lineIn}
+use Rattle.lines.specs.Line.{columnByte, columnsOf, lineOf, linesOf}
 use Rattle.lines.specs.Over.{over}
-use Rattle.lines.proofs.Over.{over-front, over-then, over-one, length-over}
+use Rattle.lines.proofs.Over.{over-front, over-then, over-one}
 
 pub length-columns : (v : ℕ) → length (columnsOf v) ≡ 11
 unfolding columnsOf
@@ -42,18 +39,16 @@ lines-append [] b = refl
 lines-append (r ∷ a) b = ap (λ (t : List ℕ). lineOf r ++ t) (lines-append a b) ∙ sym (append-assoc (lineOf r) (linesOf a) (linesOf b))
 
 -- where there is no room
-pub line-short : (r : Row) (s : List ℕ) → length s < 45 → lineIn r s ≡ s
-unfolding lineIn
-line-short r s h = simp (lt-ltb (length s) 45 h)
+pub line-short : (r : Row) (s : List ℕ) → length s < 45 → frontedInto (lineOf r) s ≡ s
+line-short r s h = into-short (lineOf r) s (omega (arith, length-line r))
 
 -- where there is
-pub line-fits : (r : Row) (s : List ℕ) → 45 ≤ length s → lineIn r s ≡ fronted (lineOf r) s
-unfolding lineIn
-line-fits r s h = simp (le-ltb (length s) 45 h)
+pub line-fits : (r : Row) (s : List ℕ) → 45 ≤ length s → frontedInto (lineOf r) s ≡ fronted (lineOf r) s
+line-fits r s h = into-fits (lineOf r) s (omega (arith, length-line r))
 
 -- what the four writers and the store leave
 pub line-told : (r : Row) (s a b c d : List ℕ) → 45 ≤ length s → a ≡ over 0 (columnsOf (r .kind)) s → b ≡ over 11 (columnsOf (r .side)) a → c ≡ over 22 (columnsOf (r .number)) b
-    → d ≡ over 33 (columnsOf (r .value)) c → length d ≡ length s → set d 44 10 ≡ lineIn r s
+    → d ≡ over 33 (columnsOf (r .value)) c → length d ≡ length s → set d 44 10 ≡ frontedInto (lineOf r) s
 line-told r s a b c d h ea eb ec ed ld =
     let k = columnsOf (r .kind) in
     let w = columnsOf (r .side) in

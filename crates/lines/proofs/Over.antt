@@ -1,11 +1,11 @@
 -- Lists written over a list, one after the other. Assumes nothing.
-use mathlib.Core.Path.{_≡_, refl, sym, ap, subst, _∙_}
+use mathlib.Core.Path.{_≡_, refl, sym, ap, _∙_}
 use mathlib.Core.List.{List, [], _∷_, _++_, append-assoc}
-use Prim.Native.Nat.{ℕ, suc, _+_, _-_, _≤_, _<_}
+use Prim.Native.Nat.{ℕ, _+_, _-_, _≤_, _<_}
 use native.Mathlib.Nat.{add-assoc, zero-add}
 use native.Mathlib.Numerals.{add-one}
 use native.Mathlib.Omega.{arith}
-use lib.ListN.{length, take, drop, set, length-append, length-drop, take-append-drop}
+use lib.ListN.{length, take, drop, set, length-append, take-append-drop}
 use lib.Seq.{take-at, drop-append-add, drop-drop, set-split, length-take-le}
 use Rattle.lists.specs.Put.{fronted}
 use Rattle.lists.proofs.Part.{part-back}
@@ -20,14 +20,6 @@ module _ {A : Type 0} where
   -- where the next list begins
   length-before : (at : ℕ) (l s : List A) → at ≤ length s → length (take at s ++ l) ≡ at + length l
   length-before at l s h = length-append (take at s) l ∙ ap (λ (k : ℕ). k + length l) (length-take-le at s h)
-
-  -- the length is kept
-  pub length-over : (at : ℕ) (l s : List A) → at + length l ≤ length s → length (over at l s) ≡ length s
-  unfolding over
-  length-over at l s h =
-      let low : at ≤ length s = omega arith in
-      length-append (take at s) (l ++ drop (at + length l) s)
-      ∙ omega (arith, length-take-le at s low, length-append l (drop (at + length l) s), length-drop (at + length l) s)
 
   -- the next list begins where the last ended
   pub over-then : (at n : ℕ) (a b s : List A) → n ≡ at + length a → n ≤ length s → over n b (over at a s) ≡ over at (a ++ b) s

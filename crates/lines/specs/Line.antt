@@ -1,10 +1,8 @@
 -- A line of the sheet: four decimal numbers, each right-justified with blanks in 11 columns, then a line feed. Definitions only.
-use mathlib.Core.Bool.{Bool, cond, _&&_}
+use mathlib.Core.Bool.{cond, _&&_}
 use mathlib.Core.List.{List, [], _∷_, _++_}
 use Prim.Native.Nat.{ℕ, _+_, _-_, _/_, _%_, _^_}
-use lib.Dec.{eqb, ltb, leb}
-use lib.ListN.{length}
-use Rattle.lists.specs.Put.{fronted}
+use lib.Dec.{eqb, ltb}
 use Rattle.lists.specs.Table.{table}
 use Rattle.lines.specs.declared.Row.{Row}
 
@@ -24,10 +22,6 @@ lineOf r = columnsOf (r .kind) ++ (columnsOf (r .side) ++ (columnsOf (r .number)
 unfoldable pub linesOf : List Row → List ℕ
 linesOf [] = []
 linesOf (r ∷ rs) = lineOf r ++ linesOf rs
-
--- a part of the sheet with a line at its front; a part that is too short is as it was
-unfoldable pub lineIn : Row → List ℕ → List ℕ
-lineIn r part = cond (ltb (length part) 45) part (fronted (lineOf r) part)
 
 -- ---- of a private function: the byte in the column c of a number of which the digits right of it are gone
 abbrev pub restByte : ℕ → ℕ → ℕ

@@ -2,7 +2,7 @@
 ghost use mathlib.Core.Path.{_≡_};
 ghost use Prim.Native.Nat.{_+_, _≤_};
 ghost use lib.ListN.{length};
-ghost use Rattle.lists.specs.Put.{fronted};
+ghost use Rattle.lists.specs.Put.{fronted, frontedInto};
 ghost use Rattle.lines.specs.Over.{over};
 ghost use Rattle.lines.specs.Line as Spec;
 
@@ -54,7 +54,7 @@ fn columns_at(part: &mut [u8], at: usize, v: u32)
 // Writes a line into the first 45 bytes of the part of the sheet that begins at its place, and keeps the bytes after it. A part that is
 // shorter is kept whole.
 pub fn line(part: &mut [u8], row: Row)
-    ensures { λ _. ⌜ now (part .exit) ≡ Spec.lineIn row (now (part .entry)) ⌝ }
+    ensures { λ _. ⌜ now (part .exit) ≡ frontedInto (Spec.lineOf row) (now (part .entry)) ⌝ }
 {
     if part.len() < LINE {
         return;

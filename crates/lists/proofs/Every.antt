@@ -1,11 +1,13 @@
 -- What a loop that tests each place keeps: after i turns the answer is `everyTo i P`. Assumes nothing.
 use mathlib.Core.Path.{_≡_, refl, sym, ap, ap₂, _∙_}
-use mathlib.Core.Bool.{Bool, true, false, _&&_, true≢false}
+use mathlib.Core.Bool.{Bool, true, _&&_}
 use Prim.Native.Nat.{ℕ, zero, suc, _+_, _≤_, _<_}
 use native.Mathlib.Nat.{le-antisymm, le-refl, le-step, eq-or-lt-of-le, le-of-suc-le-suc, not-suc-le-zero}
 use native.Mathlib.Numerals.{add-one}
 use mathlib.Core.Logic.{_⊎_, inl, inr}
+use Rattle.lists.proofs.Bools.{both-true}
 use Rattle.lists.specs.Every.{everyTo}
+pub use Rattle.lists.proofs.Bools.{both-true}
 
 -- before the loop
 pub every-none : (P : ℕ → Bool) → true ≡ everyTo 0 P
@@ -26,11 +28,6 @@ pub every-same : (n : ℕ) (P Q : ℕ → Bool) → ((k : ℕ) → k < n → P k
 unfolding everyTo
 every-same zero P Q e = refl
 every-same (suc n) P Q e = ap₂ (λ (a b : Bool). a && b) (every-same n P Q (λ k h. e k (le-step h))) (e n (le-refl (suc n)))
-
--- both of two
-pub both-true : (a b : Bool) → (a && b) ≡ true → (a ≡ true) × (b ≡ true)
-both-true true b q = (refl, q)
-both-true false b q = absurd (true≢false (sym q))
 
 -- what holds everywhere holds at a place
 pub every-at : (n : ℕ) (P : ℕ → Bool) → everyTo n P ≡ true → (k : ℕ) → k < n → P k ≡ true

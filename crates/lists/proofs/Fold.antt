@@ -22,18 +22,6 @@ module _ {S : Type 0} where
   pub fold-done : (f : ℕ → S → S) (s acc : S) (i n : ℕ) → i ≤ n → n ≤ i → acc ≡ foldTo i f s → acc ≡ foldTo n f s
   fold-done f s acc i n a b e = e ∙ ap (λ (k : ℕ). foldTo k f s) (le-antisymm a b)
 
-  -- folds by steps that agree below n are equal
-  pub fold-same : (n : ℕ) (f g : ℕ → S → S) (s : S) → ((k : ℕ) (a : S) → k < n → f k a ≡ g k a) → foldTo n f s ≡ foldTo n g s
-  unfolding foldTo
-  fold-same zero f g s e = refl
-  fold-same (suc n) f g s e = e n (foldTo n f s) (le-refl (suc n)) ∙ ap (g n) (fold-same n f g s (λ k a h. e k a (le-step h)))
-
-  -- what holds at the start and is kept by each step holds at the end
-  pub fold-keeps : (P : S → Type 0) (f : ℕ → S → S) (s : S) (n : ℕ) → P s → ((k : ℕ) (a : S) → k < n → P a → P (f k a)) → P (foldTo n f s)
-  unfolding foldTo
-  fold-keeps P f s zero b t = b
-  fold-keeps P f s (suc n) b t = t n (foldTo n f s) (le-refl (suc n)) (fold-keeps P f s n b (λ k a h. t k a (le-step h)))
-
   -- steps that change nothing from j on
   pub fold-quiet : (f : ℕ → S → S) (s : S) (j n : ℕ) → j ≤ n → ((k : ℕ) → j ≤ k → k < n → f k (foldTo j f s) ≡ foldTo j f s) → foldTo n f s ≡ foldTo j f s
   fold-quiet f s j zero h e = ap (λ (z : ℕ). foldTo z f s) (omega arith)

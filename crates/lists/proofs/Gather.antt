@@ -1,21 +1,16 @@
--- What a loop that appends a part at each turn keeps: after i turns the list is `flatTo i f`. And parts of one width w, written over a list. Assumes nothing.
+-- What a loop that appends a part at each turn keeps: after i turns the list is `flatTo i f`. And the length of parts of one width. Assumes nothing.
 use mathlib.Core.Path.{_≡_, refl, sym, ap, ap₂, subst, _∙_}
-use mathlib.Core.List.{List, [], _∷_, _++_, append-assoc, append-nil}
+use mathlib.Core.List.{List, [], _++_, append-assoc, append-nil}
 use mathlib.Core.Logic.{_⊎_, inl, inr, ⊎-elim}
 use Prim.Native.Nat.{ℕ, zero, suc, _+_, _*_, _≤_, _<_}
 use native.Mathlib.Nat.{mul-zero, mul-suc, le-antisymm, le-refl, le-step, eq-or-lt-of-le, le-of-suc-le-suc}
 use native.Mathlib.Numerals.{add-one}
 use native.Mathlib.Omega.{arith}
-use lib.ListN.{length, take, drop, length-append}
-use lib.Seq.{take-at, drop-append-add, drop-drop}
+use lib.ListN.{length, length-append}
 use Rattle.lists.specs.Gather.{flatTo}
 
 module _ {A : Type 0} where
   -- ---- a loop that appends f i, which may be empty, at each turn
-  pub gather-none : (f : ℕ → List A) (a : List A) → a ≡ a ++ flatTo 0 f
-  unfolding flatTo
-  gather-none f a = sym (append-nil a)
-
   pub gather-turn : (f : ℕ → List A) (a acc next : List A) (i : ℕ) → acc ≡ a ++ flatTo i f → next ≡ acc ++ f i → next ≡ a ++ flatTo (i + 1) f
   unfolding flatTo
   gather-turn f a acc next i e p =
@@ -53,32 +48,9 @@ module _ {A : Type 0} where
       (λ (l : i < n). omega (arith, flat-le f i n l, length-append (flatTo n f) (f n)))
       (eq-or-lt-of-le (le-of-suc-le-suc h))
 
-  -- ---- parts of one width, written over the list s
-  pub flat-none : (f : ℕ → List A) (s : List A) (w : ℕ) → s ≡ flatTo 0 f ++ drop (w * 0) s
-  unfolding flatTo
-  flat-none f s w = ap (λ (k : ℕ). drop k s) (sym (mul-zero w))
-
+  -- ---- parts of one width
   module _ (f : ℕ → List A) (w : ℕ) (wide : (k : ℕ) → length (f k) ≡ w) where
     pub length-flat : (n : ℕ) → length (flatTo n f) ≡ w * n
     unfolding flatTo
     length-flat zero = sym (mul-zero w)
     length-flat (suc n) = length-append (flatTo n f) (f n) ∙ ap₂ (λ (j k : ℕ). j + k) (length-flat n) (wide n) ∙ sym (mul-suc w n)
-
-    after : (n : ℕ) (s : List A) → drop (w * n + w) (flatTo n f ++ drop (w * n) s) ≡ drop (w * n + w) s
-    after n s =
-        ap (λ (k : ℕ). drop (k + w) (flatTo n f ++ drop (w * n) s)) (sym (length-flat n))
-        ∙ drop-append-add (flatTo n f) (drop (w * n) s) w
-        ∙ drop-drop w (w * n) s
-
-    pub flat-turn : (s xs out : List A) (i : ℕ) → xs ≡ flatTo i f ++ drop (w * i) s → out ≡ take (w * i) xs ++ (f i ++ drop (w * i + w) xs) → out ≡ flatTo (i + 1) f ++ drop (w * (i + 1)) s
-    unfolding flatTo
-    flat-turn s xs out i e p =
-        p ∙ ap (λ (l : List A). take (w * i) l ++ (f i ++ drop (w * i + w) l)) e
-        ∙ ap (λ (l : List A). l ++ (f i ++ drop (w * i + w) (flatTo i f ++ drop (w * i) s))) (take-at (flatTo i f) (drop (w * i) s) (w * i) (length-flat i))
-        ∙ ap (λ (l : List A). flatTo i f ++ (f i ++ l)) (after i s)
-        ∙ sym (append-assoc (flatTo i f) (f i) (drop (w * i + w) s))
-        ∙ ap (λ (k : ℕ). flatTo (suc i) f ++ drop k s) (sym (mul-suc w i))
-        ∙ ap (λ (k : ℕ). flatTo k f ++ drop (w * k) s) (sym (add-one i))
-
-  pub flat-done : (f : ℕ → List A) (w : ℕ) (s xs : List A) (i n : ℕ) → i ≤ n → n ≤ i → xs ≡ flatTo i f ++ drop (w * i) s → xs ≡ flatTo n f ++ drop (w * n) s
-  flat-done f w s xs i n a b e = e ∙ ap (λ (k : ℕ). flatTo k f ++ drop (w * k) s) (le-antisymm a b)

@@ -1,7 +1,15 @@
+pub mod Bools
+pub mod Comparing
 pub mod Table
 pub mod Fold
 pub mod Gather
 pub mod Put
+pub mod Fronted
 pub mod Every
 pub mod Part
 pub mod Lengths
+pub mod Refusals
+pub mod Maps
+pub mod Counting
+pub mod Lexical
+pub mod Ranking

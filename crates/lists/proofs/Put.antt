@@ -3,15 +3,13 @@
 use mathlib.Core.Path.{_≡_, refl, sym, ap, subst, _∙_}
 use mathlib.Core.Bool.{Bool, true, false}
 use mathlib.Core.List.{List, [], _∷_, _++_, append-assoc, append-nil}
-use Prim.Native.Nat.{ℕ, zero, suc, _+_, _≤_, _<_}
+use Prim.Native.Nat.{ℕ, suc, _+_, _≤_, _<_}
 use native.Mathlib.Nat.{le-antisymm}
 use native.Mathlib.Numerals.{add-one}
-use native.Mathlib.Omega.{arith}
 use lib.ListN.{length, drop, set, length-append}
 use lib.Seq.{set-at, drop-cons}
 use Rattle.lists.specs.Gather.{flatTo, onlyIf}
 use Rattle.lists.specs.Put.{countIf, fronted, putIf}
-use Rattle.lists.proofs.Gather.{flat-le}
 
 module _ {A : Type 0} where
   -- before the loop
@@ -42,14 +40,6 @@ module _ {A : Type 0} where
   put-turn f false x s cur next i n n' h fi e en p q =
       let grown : flatTo (i + 1) f ≡ flatTo i f = ap (λ (k : ℕ). flatTo k f) (add-one i) ∙ ap (λ (t : List A). flatTo i f ++ t) fi ∙ append-nil (flatTo i f) in
       (p ∙ e ∙ ap (λ (t : List A). fronted t s) (sym grown), q ∙ en ∙ sym (ap length grown))
-
-  -- where all the parts have room, a put at the turn k has
-  pub put-room : (f : ℕ → List A) (b : Bool) (x : A) (s cur : List A) (k m n : ℕ) → k < m → f k ≡ onlyIf b x → n ≡ length (flatTo k f)
-      → length (flatTo m f) ≤ length s → length cur ≡ length s → (b ≡ true → n < length cur) × (n ≤ length cur)
-  put-room f b x s cur k m n l fk en room lc = (
-    (λ (t : b ≡ true). let one : length (f k) ≡ 1 = ap length (fk ∙ ap (λ (a : Bool). onlyIf a x) t) in omega (arith, flat-le f k m l)),
-    omega (arith, flat-le f k m l),
-  )
 
   -- the loop's end
   pub put-done : (f : ℕ → List A) (s cur : List A) (k m n : ℕ) → k ≤ m → m ≤ k → cur ≡ fronted (flatTo k f) s → n ≡ length (flatTo k f)

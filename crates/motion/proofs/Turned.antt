@@ -1,9 +1,9 @@
 -- Who has moved is the same, and the reference poses after the check are those of before, changed. Assumes nothing.
 use mathlib.Core.Path.{_≡_, refl, ap, ap₂, _∙_}
 use mathlib.Core.Bool.{Bool, true, false, _&&_}
-use mathlib.Core.List.{List, _∷_, map}
-use Prim.Native.Nat.{ℕ, zero, suc}
-use Rattle.lists.specs.Table.{table}
+use mathlib.Core.List.{map}
+use Prim.Native.Nat.{ℕ}
+use Rattle.lists.proofs.Maps.{table-map}
 use Rattle.lists.proofs.Table.{table-same}
 use Rattle.game.specs.Game.{isUnpenalized}
 use Rattle.game.specs.Players.{playerAt}
@@ -15,8 +15,8 @@ use Rattle.game.specs.declared.ReferencePose.the-variants.{NoReference, Referen
 use Rattle.game.specs.declared.SeenPose.{SeenPose}
 use Rattle.game.specs.declared.SeenPose.the-variants.{Absent, Present}
 use Rattle.game.specs.declared.Team.{Team}
-use Rattle.geometry.specs.Turned.{changedPose, changedSeen, changedReference, changedPlayer, changedTeam, turnedPlayer, turnedTeam}
-use Rattle.positioning.proofs.Turned.{distance-changed, player-at-changed}
+use Rattle.geometry.specs.Turned.{changedPose, changedSeen, changedReference, changedPlayer, changedTeam}
+use Rattle.geometry.proofs.Turned.{distance-changed, player-at-changed}
 use Rattle.motion.specs.Motion.{isAway, isSeenAway, hasMoved, movedPlayers, unlessMoved, referenceAfter, referencesAfter}
 use Rattle.motion.specs.Turned.{changedElement}
 
@@ -40,11 +40,6 @@ unfolding movedPlayers
 moved-players-changed a b t =
     numbers-same (λ i. hasMoved (playerAt (changedTeam a b t) i)) (λ i. hasMoved (playerAt t i)) (λ i h. moved-at a b t i)
 
--- a table of changed elements
-map-table : {A B : Type 0} (g : A → B) (n : ℕ) (f : ℕ → A) → table n (λ k. g (f k)) ≡ map g (table n f)
-map-table g zero f = refl
-map-table {B = B} g (suc n) f = ap (λ (l : List B). g (f 0) ∷ l) (map-table g n (λ k. f (suc k)))
-
 unless-changed : (a b m : Bool) (r : ReferencePose) → unlessMoved m (changedReference a b r) ≡ changedReference a b (unlessMoved m r)
 unless-changed a b true r = refl
 unless-changed a b false r = refl
@@ -58,14 +53,4 @@ pub references-changed : (a b : Bool) (t : Team) → referencesAfter (changedTea
 unfolding referencesAfter
 references-changed a b t =
     table-same 20 (λ k. referenceAfter (playerAt (changedTeam a b t) k)) (λ k. changedElement a b (referenceAfter (playerAt t k))) (λ i h. reference-changed a b t i)
-    ∙ map-table (changedElement a b) 20 (λ k. referenceAfter (playerAt t k))
-
--- ---- the half-turn
-pub moved-turned : (q : Player) → hasMoved (turnedPlayer q) ≡ hasMoved q
-moved-turned q = moved-changed true true q
-
-pub moved-players-turned : (t : Team) → movedPlayers (turnedTeam t) ≡ movedPlayers t
-moved-players-turned t = moved-players-changed true true t
-
-pub references-turned : (t : Team) → referencesAfter (turnedTeam t) ≡ map (changedElement true true) (referencesAfter t)
-references-turned t = references-changed true true t
+    ∙ table-map (changedElement a b) 20 (λ k. referenceAfter (playerAt t k))

@@ -6,7 +6,7 @@ use lib.Ieee.{Float, binary32, lt, ofBits}
 use Rattle.lists.specs.Table.{table}
 use Rattle.floats.specs.Arithmetic.{_-₃₂_}
 use Rattle.floats.specs.Leaves.{abs}
-use Rattle.floats.specs.Hypot.{hypot}
+use Rattle.hypot.specs.Hypot.{hypot}
 use Rattle.game.specs.Game.{isUnpenalized}
 use Rattle.game.specs.Players.{playerAt, numbersWhere}
 use Rattle.game.specs.declared.Player.{Player}
@@ -18,7 +18,7 @@ use Rattle.game.specs.declared.SeenPose.{SeenPose}
 use Rattle.game.specs.declared.SeenPose.the-variants.{Absent, Present}
 use Rattle.game.specs.declared.Team.{Team}
 use Rattle.geometry.specs.Geometry.{normalizeAngle}
-use Rattle.motion.specs.declared.PlayerReference.{PlayerReference}
+use Rattle.game.specs.declared.PlayerReference.{PlayerReference}
 use Rattle.motion.specs.declared.Motion.{Motion}
 
 -- 0.1, the distance a player must move

@@ -2,7 +2,7 @@
 -- Definitions only.
 use mathlib.Core.Bool.{Bool}
 use Rattle.geometry.specs.Turned.{changedReference}
-use Rattle.motion.specs.declared.PlayerReference.{PlayerReference}
+use Rattle.game.specs.declared.PlayerReference.{PlayerReference}
 
 -- an element of a list of reference poses
 abbrev pub changedElement : Bool → Bool → PlayerReference → PlayerReference

@@ -3,7 +3,7 @@ ghost use mathlib.Core.Path.{_≡_};
 ghost use Rattle.motion.specs.Motion as Spec;
 use game::Player;
 use game::PlayerList;
-use game::PlayerPose;
+use game::PlayerReference;
 use game::ReferencePose;
 use game::SeenPose;
 use game::Team;
@@ -14,31 +14,6 @@ const MOTION_DISTANCE: f32 = 0.1;
 // The angle a player must turn.
 const MOTION_ANGLE: f32 = 0.3;
 
-// Whether one pose is away from the other by more than the distance or the angle.
-fn is_away(pose: PlayerPose, reference: PlayerPose) -> bool
-    ensures { λ r. ⌜ r ≡ Spec.isAway pose reference ⌝ }
-{
-    let distance = floats::hypot(pose.x - reference.x, pose.y - reference.y);
-    if distance > MOTION_DISTANCE {
-        return true;
-    }
-    let angle = floats::abs(rules::normalize_angle(pose.theta - reference.theta));
-    angle > MOTION_ANGLE
-}
-
-// The same where both poses are there.
-fn is_seen_away(pose: SeenPose, reference: ReferencePose) -> bool
-    ensures { λ r. ⌜ r ≡ Spec.isSeenAway pose reference ⌝ }
-{
-    match pose {
-        SeenPose::Absent => false,
-        SeenPose::Present(p) => match reference {
-            ReferencePose::NoReference => false,
-            ReferencePose::Reference(q) => is_away(p, q),
-        },
-    }
-}
-
 // Whether an unpenalised player has moved from its reference pose.
 pub fn has_moved(player: Player) -> bool
     ensures { λ r. ⌜ r ≡ Spec.hasMoved player ⌝ }
@@ -47,8 +22,20 @@ pub fn has_moved(player: Player) -> bool
     let pose = player.pose;
     let reference = player.reference;
     let unpenalized = game::is_unpenalized(penalty);
-    let away = is_seen_away(pose, reference);
-    unpenalized & away
+    match pose {
+        SeenPose::Absent => false,
+        SeenPose::Present(p) => match reference {
+            ReferencePose::NoReference => false,
+            ReferencePose::Reference(q) => {
+                let distance = hypot::hypot(p.x - q.x, p.y - q.y);
+                if distance > MOTION_DISTANCE {
+                    return unpenalized;
+                }
+                let angle = floats::abs(geometry::normalize_angle(p.theta - q.theta));
+                unpenalized & (angle > MOTION_ANGLE)
+            }
+        },
+    }
 }
 
 // Which of a team's players have moved.
@@ -64,11 +51,6 @@ fn moved_flags(team: Team) -> [bool; 20]
         i += 1;
     }
     out
-}
-
-// An element of a side's list of reference poses.
-pub struct PlayerReference {
-    pub reference: ReferencePose,
 }
 
 // What motion gives for a team: the numbers of the players that have moved, ascending, and the reference poses after that.

@@ -5,7 +5,7 @@ use Prim.Native.Nat.{ℕ, _+_, _-_, _*_, _≤_}
 use native.Mathlib.Omega.{arith}
 use borrow.Author.Tests.{leb-true}
 use lib.Dec.{leb}
-use Rattle.lists.proofs.Every.{both-true}
+use Rattle.lists.proofs.Bools.{both-true}
 use Rattle.numbers.specs.declared.Kind.{Kind}
 use Rattle.numbers.specs.declared.Kind.the-variants.{Separator, Digit, Other}
 use Rattle.numbers.specs.declared.Progress.{Progress}

@@ -9,16 +9,15 @@ use lib.Ieee.Fits.{neg-fits, add-fits, sub-fits}
 use Rattle.lists.specs.Fold.{foldTo}
 use Rattle.lists.specs.Gather.{flatTo, onlyIf}
 use Rattle.floats.specs.Leaves.{totalOrder}
-use Rattle.candidates.specs.Candidates.{candidateAt, isCandidate}
-use Rattle.candidates.specs.Candidates as Cand
-use Rattle.game.specs.declared.FieldDimensions.{FieldDimensions}
-use Rattle.candidates.specs.Candidates.{unfit, candidatesOf, firstCandidate}
-use Rattle.candidates.proofs.CandidatesList.{Held, no-walk-told, candidates-by-half-turns}
 use Rattle.floats.specs.Arithmetic.{zero32}
+use Rattle.game.specs.declared.FieldDimensions.{FieldDimensions}
+use Rattle.candidates.specs.Candidates.{crossed, unfit, walks, candidatesOf, firstCandidate, candidateAt, isCandidate, triesOf, triedAt}
+use Rattle.candidates.proofs.CandidatesList.{Held, no-walk-told, candidates-by-tries}
+use Rattle.clearance.specs.Clearance.{Spot}
 use Rattle.penalty.specs.declared.Choice.{Choice}
 use Rattle.penalty.specs.declared.Search.{Search}
-use Rattle.penalty.specs.Penalty.{Spot, notBelow, firstReaching, ifEnough, lastGreatest, laterGreater, orElse, chosen, afterFirst, othersOf, startOf, lowestOf, highestOf, teamPlace, clearFrom}
-use Rattle.penalty.specs.Walk.{considered, consider, clearAt, halfTurn}
+use Rattle.penalty.specs.Penalty.{notBelow, firstReaching, ifEnough, lastGreatest, laterGreater, orElse, chosen, candidatesTried, startOf, lowestOf, highestOf, teamPlace, clearFrom}
+use Rattle.penalty.specs.Walk.{considered, consider, clearAt, afterTry}
 
 -- the choice after each of a list
 abbrev afterAll : Float → (Float → Float) → Choice → List Float → Choice
@@ -29,21 +28,21 @@ after-append : (d : Float) (clear : Float → Float) (c : Choice) (l m : List Fl
 after-append d clear c [] m = refl
 after-append d clear c (x ∷ l) m = after-append d clear (considered c d x (clear x)) l m
 
--- half turns, a list at a time
+-- the tries, a list at a time
 walk-after : (s : Search) (spots : List Spot) (c : Choice) (m : ℕ)
-    → foldTo m (halfTurn s spots) c ≡ afterAll (s .distance) (clearAt s spots) c (flatTo m (Cand.halfTurn (s .first) (s .min) (s .max) (s .distance)))
+    → foldTo m (afterTry s spots) c ≡ afterAll (s .distance) (clearAt s spots) c (flatTo m (triedAt (s .first) (s .min) (s .max) (s .distance)))
 unfolding foldTo flatTo
 walk-after s spots c zero = refl
 walk-after s spots c (suc m) =
-    ap (halfTurn s spots m) (walk-after s spots c m)
+    ap (afterTry s spots m) (walk-after s spots c m)
     ∙ one (afterAll (s .distance) (clearAt s spots) c (flatTo m f))
     ∙ sym (after-append (s .distance) (clearAt s spots) c (flatTo m f) (f m))
   where
     f : ℕ → List Float
-    f = Cand.halfTurn (s .first) (s .min) (s .max) (s .distance)
+    f = triedAt (s .first) (s .min) (s .max) (s .distance)
 
-    one : (z : Choice) → halfTurn s spots m z ≡ afterAll (s .distance) (clearAt s spots) z (f m)
-    one z = unfold halfTurn in go (isCandidate (s .min) (s .max) m (candidateAt (s .first) (s .distance) m))
+    one : (z : Choice) → afterTry s spots m z ≡ afterAll (s .distance) (clearAt s spots) z (f m)
+    one z = unfold afterTry in go (isCandidate (s .min) (s .max) m (candidateAt (s .first) (s .distance) m))
       where
         go : (b : Bool) → cond b (consider s spots (candidateAt (s .first) (s .distance) m) z) z ≡ afterAll (s .distance) (clearAt s spots) z (onlyIf b (candidateAt (s .first) (s .distance) m))
         go true = refl
@@ -74,12 +73,12 @@ takes d clear c (x ∷ xs) h e = go (le d (clear x)) (notBelow (totalOrder (clea
 
 -- the whole walk, from the first candidate
 pub walk-chooses : (s : Search) (spots : List Spot) (c : Float) (r : Bool) (m : ℕ) → c ≡ clearAt s spots (s .first) → r ≡ le (s .distance) c
-    → foldTo m (halfTurn s spots) (record { reached = r; x = s .first; clearance = c }) .x ≡ chosen (s .distance) (clearAt s spots) (s .first) (flatTo m (Cand.halfTurn (s .first) (s .min) (s .max) (s .distance)))
+    → foldTo m (afterTry s spots) (record { reached = r; x = s .first; clearance = c }) .x ≡ chosen (s .distance) (clearAt s spots) (s .first ∷ flatTo m (triedAt (s .first) (s .min) (s .max) (s .distance)))
 unfolding chosen
 walk-chooses s spots c r m e t = ap (λ (z : Choice). z .x) (walk-after s spots (record { reached = r; x = s .first; clearance = c }) m) ∙ go r refl
   where
     xs : List Float
-    xs = flatTo m (Cand.halfTurn (s .first) (s .min) (s .max) (s .distance))
+    xs = flatTo m (triedAt (s .first) (s .min) (s .max) (s .distance))
 
     d : Float
     d = s .distance
@@ -94,41 +93,41 @@ walk-chooses s spots c r m e t = ap (λ (z : Choice). z .x) (walk-after s spots 
     go true h = ap (λ (z : Choice). z .x) (stays d clear (record { reached = r; x = s .first; clearance = c }) xs h) ∙ sym (ap (λ (b : Bool). orElse (ifEnough b (s .first) (firstReaching d clear xs)) (lastGreatest clear (s .first) xs)) (test ∙ h))
     go false h = takes d clear (record { reached = r; x = s .first; clearance = c }) xs h e ∙ sym (ap (λ (b : Bool). orElse (ifEnough b (s .first) (firstReaching d clear xs)) (lastGreatest clear (s .first) xs)) (test ∙ h))
 
--- the candidates after the first are those of the half turns
-pub others-walked : (start min max step : Float) → Held start min max step → othersOf start min max step ≡ flatTo (Cand.halfTurnsOf start min max step) (Cand.halfTurn (firstCandidate start min max) min max step)
-unfolding othersOf
-others-walked start min max step f = go (unfit start min max step) refl
+-- the candidates that are tried: the first, then those of the tries
+pub tried-walked : (start min max step : Float) → Held start min max step → candidatesTried start min max step ≡ firstCandidate start min max ∷ flatTo (triesOf start min max step) (triedAt (firstCandidate start min max) min max step)
+unfolding candidatesTried
+tried-walked start min max step f = go (unfit start min max step) refl
   where
-    turns : List Float
-    turns = flatTo (Cand.halfTurnsOf start min max step) (Cand.halfTurn (firstCandidate start min max) min max step)
+    first : Float
+    first = firstCandidate start min max
 
-    idle : unfit start min max step ≡ true → Cand.walks start min max step ≡ false
-    idle u = unfold Cand.walks in ap (λ (b : Bool). not (Cand.crossed min max) && not b && not (le step zero32)) u ∙ none (not (Cand.crossed min max))
+    idle : unfit start min max step ≡ true → walks start min max step ≡ false
+    idle u = unfold walks in ap (λ (b : Bool). not (crossed min max) && not b && not (le step zero32)) u ∙ none (not (crossed min max))
       where
         none : (a : Bool) → (a && false && not (le step zero32)) ≡ false
         none true = refl
         none false = refl
 
-    go : (b : Bool) → unfit start min max step ≡ b → cond b [] (afterFirst (candidatesOf start min max step)) ≡ turns
-    go true u = sym (ap (λ (n : ℕ). flatTo (2 * n) (Cand.halfTurn (firstCandidate start min max) min max step)) (sym (no-walk-told start min max step f (idle u) .0)) ∙ empty)
-      where
-        empty : flatTo (2 * 0) (Cand.halfTurn (firstCandidate start min max) min max step) ≡ []
-        empty = unfold flatTo in refl
-    go false u = ap afterFirst (candidates-by-half-turns start min max step f u)
+    empty : flatTo (2 * 0) (triedAt first min max step) ≡ []
+    empty = unfold flatTo in refl
+
+    go : (b : Bool) → unfit start min max step ≡ b → cond b (first ∷ []) (candidatesOf start min max step) ≡ first ∷ flatTo (triesOf start min max step) (triedAt first min max step)
+    go true u = ap (λ (l : List Float). first ∷ l) (sym (ap (λ (n : ℕ). flatTo (2 * n) (triedAt first min max step)) (sym (no-walk-told start min max step f (idle u) .0)) ∙ empty))
+    go false u = candidates-by-tries start min max step f u
 
 -- the place, from what the calls tell
 pub place-told : (f : FieldDimensions) (r d sign y first c : Float) (m : ℕ) (spots : List Spot) (taken : Choice) → T (fits binary32 d)
-    → first ≡ firstCandidate (startOf f) (lowestOf f r) (highestOf r) → m ≡ Cand.halfTurnsOf (startOf f) (lowestOf f r) (highestOf r) d → c ≡ clearFrom sign y spots first
+    → first ≡ firstCandidate (startOf f) (lowestOf f r) (highestOf r) → m ≡ triesOf (startOf f) (lowestOf f r) (highestOf r) d → c ≡ clearFrom sign y spots first
     → T (fits binary32 r)
-    → taken ≡ foldTo m (halfTurn (record { first = first; min = lowestOf f r; max = highestOf r; distance = d; sign = sign; y = y }) spots) (record { reached = le d c; x = first; clearance = c })
+    → taken ≡ foldTo m (afterTry (record { first = first; min = lowestOf f r; max = highestOf r; distance = d; sign = sign; y = y }) spots) (record { reached = le d c; x = first; clearance = c })
     → taken .x ≡ teamPlace f r d (clearFrom sign y spots)
 unfolding teamPlace
 place-told f r d sign y first c m spots taken h e t k g w =
     ap (λ (z : Choice). z .x) w
     ∙ walk-chooses (record { first = first; min = min; max = max; distance = d; sign = sign; y = y }) spots c (le d c) m k refl
-    ∙ ap (λ (n : ℕ). chosen d clear first (flatTo n (Cand.halfTurn first min max d))) t
-    ∙ ap (λ (v : Float). chosen d clear v (flatTo (Cand.halfTurnsOf start min max d) (Cand.halfTurn v min max d))) e
-    ∙ ap (chosen d clear (firstCandidate start min max)) (sym (others-walked start min max d (record { fits-start = neg-fits binary32 _ (sub-fits binary32 _ _); fits-min = add-fits binary32 _ _; fits-max = neg-fits binary32 r g; fits-step = h })))
+    ∙ ap (λ (n : ℕ). chosen d clear (first ∷ flatTo n (triedAt first min max d))) t
+    ∙ ap (λ (v : Float). chosen d clear (v ∷ flatTo (triesOf start min max d) (triedAt v min max d))) e
+    ∙ ap (chosen d clear) (sym (tried-walked start min max d (record { fits-start = neg-fits binary32 _ (sub-fits binary32 _ _); fits-min = add-fits binary32 _ _; fits-max = neg-fits binary32 r g; fits-step = h })))
   where
     start : Float
     start = startOf f

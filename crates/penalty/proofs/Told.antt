@@ -1,59 +1,69 @@
 -- From what the calls tell to the definitions. Assumes nothing.
-use mathlib.Core.Path.{_≡_, refl, sym, ap, _∙_}
+use mathlib.Core.Path.{_≡_, sym, ap, _∙_}
 use mathlib.Core.Bool.{Bool, cond}
 use mathlib.Core.List.{List}
 use Prim.Native.Nat.{ℕ, _≤_, _<_}
 use borrow.Author.Tests.{le-leb, lt-leb}
 use lib.ListN.{length}
-use lib.Ieee.{Float}
-use Rattle.floats.specs.Arithmetic.{_*₃₂_}
+use lib.Ieee.{Float, neg, lt}
+use Rattle.floats.specs.Arithmetic.{_*₃₂_, zero32, half, pi}
+use Rattle.game.specs.Players.{teamOfSide, playerNumbered}
 use Rattle.game.specs.declared.FieldDimensions.{FieldDimensions}
+use Rattle.game.specs.declared.Placement.{Placement}
+use Rattle.game.specs.declared.Placement.the-variants.{NoPlace, PlayerAt}
 use Rattle.game.specs.declared.Player.{Player}
 use Rattle.game.specs.declared.PlayerPose.{PlayerPose}
+use Rattle.game.specs.declared.SeenPose.{SeenPose}
+use Rattle.game.specs.declared.SeenPose.the-variants.{Absent, Present}
 use Rattle.game.specs.declared.Side.{Side}
-use Rattle.game.specs.declared.Side.the-variants.{Home, Away}
 use Rattle.game.specs.declared.SideMapping.{SideMapping}
 use Rattle.game.specs.declared.Team.{Team}
 use Rattle.geometry.specs.Geometry.{sideToSign}
-use Rattle.places.specs.Places.{playerNumbered}
-use Rattle.places.specs.declared.Placement.{Placement}
-use Rattle.places.specs.declared.Placement.the-variants.{NoPlace, PlayerAt}
-use Rattle.penalty.specs.Penalty.{Spot, spotsAt, edgeOf, inward, teamPlace, clearFrom, posePlace, seenPlace, leftOut, occupied, teamOfSide, placeForPenalty}
-use Rattle.penalty.specs.Walk.{spotsOf}
+use Rattle.clearance.specs.Clearance.{Spot, occupied}
+use Rattle.penalty.specs.Penalty.{edgeOf, inward, teamPlace, clearFrom, posePlace, seenPlace, placeForPenalty}
 
--- ---- a place
-pub pose-told : (f : FieldDimensions) (d sign : Float) (p : PlayerPose) (spots : List Spot) (side : Side) (number : ℕ) (y theta x : Float) → y ≡ edgeOf f p → theta ≡ inward y → x ≡ teamPlace f (p .radius) d (clearFrom sign y spots)
-    → PlayerAt side number (sign *₃₂ x) y theta ≡ posePlace f d sign p spots side number
-unfolding posePlace
-pose-told f d sign p spots side number y theta x a b c =
-    ap (λ (z : Float). PlayerAt side number (sign *₃₂ z) y theta) c
-    ∙ ap (λ (z : Float). PlayerAt side number (sign *₃₂ teamPlace f (p .radius) d (clearFrom sign y spots)) y z) b
-    ∙ ap (λ (z : Float). PlayerAt side number (sign *₃₂ teamPlace f (p .radius) d (clearFrom sign z spots)) z (inward z)) a
+-- the player of one of the two teams
+pub player-told : (home away team : Team) (side which : Side) (number : ℕ) (q : Player) → side ≡ which → team ≡ teamOfSide home away which → q ≡ playerNumbered team number → q ≡ playerNumbered (teamOfSide home away side) number
+player-told home away team side which number q s t e = e ∙ ap (λ (z : Team). playerNumbered z number) (t ∙ ap (teamOfSide home away) (sym s))
+
+-- the heading, by which way the place is off the middle line
+pub heading-told : (y theta : Float) (b : Bool) → lt zero32 y ≡ b → theta ≡ cond b (neg pi *₃₂ half) (pi *₃₂ half) → theta ≡ inward y
+heading-told y theta b h e = e ∙ ap (λ (z : Bool). cond z (neg pi *₃₂ half) (pi *₃₂ half)) (sym h)
 
 module _ (sides : SideMapping) (f : FieldDimensions) (d : Float) (home away : Team) (xs ys : List Float) (side : Side) (number : ℕ) where
-  spots : ℕ → ℕ → List Spot
-  spots a b = spotsOf (record { home = home; away = away; «skip_home» = a; «skip_away» = b }) xs ys
+  -- the place of this player, by the sign of its side and where the others are
+  place : Float → SeenPose → Placement
+  place sign pose = seenPlace f d sign pose (occupied home away side number xs ys) side number
 
-  taken : spots (leftOut side number Home) (leftOut side number Away) ≡ occupied home away side number xs ys
-  unfolding spots spotsOf occupied
-  taken = refl
-
-  place : Float → Player → List Spot → Placement
-  place sign q s = seenPlace f d sign (q .pose) s side number
-
-  pub place-given : (team : Team) (q : Player) (sign : Float) (a b : ℕ) (r : Placement) → length xs ≤ length ys → team ≡ teamOfSide home away side → q ≡ playerNumbered team number → sign ≡ sideToSign side sides
-      → a ≡ leftOut side number Home → b ≡ leftOut side number Away → r ≡ seenPlace f d sign (q .pose) (spotsOf (record { home = home; away = away; «skip_home» = a; «skip_away» = b }) xs ys) side number
-      → r ≡ placeForPenalty sides f d home away xs ys side number
-  unfolding placeForPenalty spots place
-  place-given team q sign a b r l t n s h w e =
-      e
-      ∙ ap (λ (z : Player). place sign z (spots a b)) (n ∙ ap (λ (z : Team). playerNumbered z number) t)
-      ∙ ap (λ (z : Float). place z (playerNumbered (teamOfSide home away side) number) (spots a b)) s
-      ∙ ap (λ (z : ℕ). place (sideToSign side sides) (playerNumbered (teamOfSide home away side) number) (spots z b)) h
-      ∙ ap (λ (z : ℕ). place (sideToSign side sides) (playerNumbered (teamOfSide home away side) number) (spots (leftOut side number Home) z)) w
-      ∙ ap (place (sideToSign side sides) (playerNumbered (teamOfSide home away side) number)) taken
-      ∙ ap (λ (z : Bool). cond z (place (sideToSign side sides) (playerNumbered (teamOfSide home away side) number) (occupied home away side number xs ys)) NoPlace) (sym (le-leb (length xs) (length ys) l))
-
+  -- more xs than ys
   pub place-none : length ys < length xs → NoPlace ≡ placeForPenalty sides f d home away xs ys side number
   unfolding placeForPenalty
-  place-none l = ap (λ (z : Bool). cond z (seenPlace f d (sideToSign side sides) (playerNumbered (teamOfSide home away side) number .pose) (occupied home away side number xs ys) side number) NoPlace) (sym (lt-leb (length xs) (length ys) l))
+  place-none l =
+      ap (λ (z : Bool). cond z (seenPlace f d (sideToSign side sides) (playerNumbered (teamOfSide home away side) number .pose) (occupied home away side number xs ys) side number) NoPlace) (sym (lt-leb (length xs) (length ys) l))
+
+  module _ (q : Player) (l : length xs ≤ length ys) (n : q ≡ playerNumbered (teamOfSide home away side) number) where
+    found : place (sideToSign side sides) (q .pose) ≡ placeForPenalty sides f d home away xs ys side number
+    unfolding placeForPenalty place
+    found =
+        ap (λ (z : Player). place (sideToSign side sides) (z .pose)) n
+        ∙ ap (λ (z : Bool). cond z (place (sideToSign side sides) (playerNumbered (teamOfSide home away side) number .pose)) NoPlace) (sym (le-leb (length xs) (length ys) l))
+
+    -- an absent player
+    pub place-absent : q .pose ≡ Absent → NoPlace ≡ placeForPenalty sides f d home away xs ys side number
+    unfolding place
+    place-absent e = ap (place (sideToSign side sides)) (sym e) ∙ found
+
+    -- one that is present
+    pub place-given : (p : PlayerPose) (sign y theta x : Float) → q .pose ≡ Present p → sign ≡ sideToSign side sides → y ≡ edgeOf f p → theta ≡ inward y
+        → x ≡ teamPlace f (p .radius) d (clearFrom sign y (occupied home away side number xs ys)) → PlayerAt side number (sign *₃₂ x) y theta ≡ placeForPenalty sides f d home away xs ys side number
+    unfolding place posePlace
+    place-given p sign y theta x e s a b c =
+        ap (λ (z : Float). PlayerAt side number (sign *₃₂ z) y theta) c
+        ∙ ap (λ (z : Float). PlayerAt side number (sign *₃₂ teamPlace f (p .radius) d (clearFrom sign y spots)) y z) b
+        ∙ ap (λ (z : Float). PlayerAt side number (sign *₃₂ teamPlace f (p .radius) d (clearFrom sign z spots)) z (inward z)) a
+        ∙ ap (λ (z : Float). place z (Present p)) s
+        ∙ ap (place (sideToSign side sides)) (sym e)
+        ∙ found
+      where
+        spots : List Spot
+        spots = occupied home away side number xs ys

@@ -1,3 +1,3 @@
-pub mod Numbered
+pub mod Others
 pub mod Signs
 pub mod Turned

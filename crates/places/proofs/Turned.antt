@@ -2,13 +2,14 @@
 use mathlib.Core.Path.{_≡_, refl, ap, _∙_}
 use mathlib.Core.Logic.{inl}
 use mathlib.Core.Bool.{Bool, true, false, not, cond, _&&_}
-use Prim.Native.Nat.{ℕ, zero, suc}
+use Prim.Native.Nat.{ℕ}
 use lib.Dec.{T}
 use lib.Ieee.{Float, binary32, neg, lt, fits, ofBits}
 use lib.Ieee.Fits.{sub-fits}
 use lib.Ieee.Bits.{ofBits-fits}
 use Rattle.floats.specs.Arithmetic.{_-₃₂_, _*₃₂_, zero32, half}
 use Rattle.floats.proofs.Laws.MinMax.{max-fits}
+use Rattle.game.specs.Players.{playerNumbered}
 use Rattle.game.specs.Game.{sameSide, isShootout, isUnpenalized}
 use Rattle.game.specs.declared.Ball.{Ball}
 use Rattle.game.specs.declared.FieldDimensions.{FieldDimensions}
@@ -29,14 +30,12 @@ use Rattle.game.specs.declared.Side.the-variants.{Home, Away}
 use Rattle.game.specs.declared.SideMapping.{SideMapping}
 use Rattle.game.specs.declared.SideMapping.the-variants.{HomeDefendsLeftGoal, HomeDefendsRightGoal}
 use Rattle.game.specs.declared.Team.{Team}
-use Rattle.geometry.specs.Geometry.{sideToSign, teamX, isOnOwnGoalLine}
-use Rattle.positioning.specs.Positioning.{markX}
-use Rattle.geometry.specs.Turned.{signed, changedPose, changedSeen, changedPlayer, changedTeam, changedBall, exchanged, changedEnds, changedGame, turnedBall, turnedGame, turnedPlayer, turnedTeam}
-use Rattle.positioning.proofs.Turned.{abs-changed, team-changed, sign-changed, goal-line-changed, player-at-changed}
-use Rattle.places.proofs.Numbered.{numbered-changed}
-use Rattle.places.specs.Places.{goalLineX, touchlineY, areaLineX, areaLineY, inOpponentArea, areaFreeKickPlace, freeKickPlace, restartPlace, ballAtRestart, markPlace, centerPlace, markOr, setPlayPlace, ballInSet, heading, shotX, seenShotPlace, penaltyShotPlace, postY, keeperPlace, checkedKeeperPlace, seenKeeperPlace, playerNumbered, maybeKeeperPlace, penaltyGoalkeeperPlace}
-use Rattle.places.specs.Turned.{Located, FitsY, HalfRound, to-pi, from-pi, ChangedPlace, none, ball, player, TurnedHeading, SamePlace}
-use Rattle.places.specs.declared.Placement.{Placement}
+use Rattle.geometry.specs.Geometry.{sideToSign, teamX, isOnOwnGoalLine, markX}
+use Rattle.geometry.specs.Turned.{signed, changedPose, changedSeen, changedPlayer, changedTeam, changedBall, changedEnds, changedGame}
+use Rattle.geometry.proofs.Turned.{abs-changed, team-changed, sign-changed, goal-line-changed, numbered-changed}
+use Rattle.places.specs.Places.{goalLineX, touchlineY, areaLineX, areaLineY, inOpponentArea, areaFreeKickPlace, freeKickPlace, restartPlace, ballAtRestart, markPlace, centerPlace, markOr, setPlayPlace, ballInSet, heading, shotX, seenShotPlace, penaltyShotPlace, postY, keeperPlace, checkedKeeperPlace, seenKeeperPlace, maybeKeeperPlace, penaltyGoalkeeperPlace}
+use Rattle.places.specs.Turned.{Located, FitsY, GivenHeading, from-zero, from-pi, ChangedPlace, none, ball, player}
+use Rattle.game.specs.declared.Placement.{Placement}
 use Rattle.places.proofs.Signs.{place-changed, copysign-changed, clamp-changed, zero-changed}
 
 -- ---- the ball
@@ -140,23 +139,14 @@ module _ (a b : Bool) (H : Float → Float → Type 0) (kept : (theta : Float) �
   unfolding penaltyGoalkeeperPlace
   penalty-goalkeeper-changed g t n = maybe-keeper-changed (t .goalkeeper) (g .sides) t n
 
--- ---- the half-turn
-heading-turned : (side : Side) (sides : SideMapping) → HalfRound (heading (sideToSign side sides)) (heading (sideToSign side (exchanged sides)))
+-- ---- the heading of a penalty shot
+pub heading-changed : (a b : Bool) (side : Side) (sides : SideMapping) → GivenHeading a b (heading (sideToSign side sides)) (heading (sideToSign side (changedEnds a sides)))
 unfolding lt neg ofBits
-heading-turned Home HomeDefendsLeftGoal = from-pi
-heading-turned Home HomeDefendsRightGoal = to-pi
-heading-turned Away HomeDefendsLeftGoal = to-pi
-heading-turned Away HomeDefendsRightGoal = from-pi
-
--- of a ball no heading is asked
-pub ball-at-restart-turned : (kept : Bool) (g : Game) (f : FieldDimensions) (o : Ball) → Located o → SamePlace kept (ballAtRestart g f o) (ballAtRestart (turnedGame g) f (turnedBall o))
-ball-at-restart-turned kept g f o n = ball-at-restart-changed true true (TurnedHeading kept) f g o n
-
-pub ball-in-set-turned : (kept : Bool) (g : Game) (f : FieldDimensions) → SamePlace kept (ballInSet g f) (ballInSet (turnedGame g) f)
-ball-in-set-turned kept g f = ball-in-set-changed true true (TurnedHeading kept) f g
-
-pub penalty-shot-turned : (g : Game) (f : FieldDimensions) (side : Side) (number : ℕ) (q : Player) → SamePlace false (penaltyShotPlace g f side number q) (penaltyShotPlace (turnedGame g) f side number (turnedPlayer q))
-penalty-shot-turned g f side number q = penalty-shot-changed true true (TurnedHeading false) f heading-turned g side number q
-
-pub penalty-goalkeeper-turned : (g : Game) (f : FieldDimensions) (side : Side) (t : Team) → ((number : ℕ) → FitsY (playerNumbered t number .pose)) → SamePlace true (penaltyGoalkeeperPlace g f side t) (penaltyGoalkeeperPlace (turnedGame g) f side (turnedTeam t))
-penalty-goalkeeper-turned g f side t n = penalty-goalkeeper-changed true true (TurnedHeading true) (λ theta. refl) f side g t n
+heading-changed true b Home HomeDefendsLeftGoal = from-pi
+heading-changed true b Home HomeDefendsRightGoal = from-zero
+heading-changed true b Away HomeDefendsLeftGoal = from-zero
+heading-changed true b Away HomeDefendsRightGoal = from-pi
+heading-changed false b Home HomeDefendsLeftGoal = from-pi
+heading-changed false b Home HomeDefendsRightGoal = from-zero
+heading-changed false b Away HomeDefendsLeftGoal = from-zero
+heading-changed false b Away HomeDefendsRightGoal = from-pi

@@ -1,11 +1,11 @@
 -- Where the ball and the players are placed: binary32, each operation rounded once. Definitions only.
 use mathlib.Core.Bool.{Bool, true, false, not, cond, _&&_}
-use Prim.Native.Nat.{ℕ, zero, suc}
+use Prim.Native.Nat.{ℕ}
 use lib.Ieee.{Float, neg, lt, le}
 use Rattle.floats.specs.Arithmetic.{_+₃₂_, _-₃₂_, _*₃₂_, zero32, half, pi}
 use Rattle.floats.specs.Leaves.{abs, copysign, clamp, maximumNumber}
 use Rattle.game.specs.Game.{sameSide, isShootout, isUnpenalized}
-use Rattle.game.specs.Players.{nobody, playerAt}
+use Rattle.game.specs.Players.{playerNumbered}
 use Rattle.game.specs.declared.Ball.{Ball}
 use Rattle.game.specs.declared.FieldDimensions.{FieldDimensions}
 use Rattle.game.specs.declared.Game.{Game}
@@ -23,10 +23,9 @@ use Rattle.game.specs.declared.SetPlay.the-variants.{NoSetPlay, KickOff, Direct
 use Rattle.game.specs.declared.Side.{Side}
 use Rattle.game.specs.declared.SideMapping.{SideMapping}
 use Rattle.game.specs.declared.Team.{Team}
-use Rattle.geometry.specs.Geometry.{sideToSign, teamX, isOnOwnGoalLine}
-use Rattle.positioning.specs.Positioning.{markX}
-use Rattle.places.specs.declared.Placement.{Placement}
-use Rattle.places.specs.declared.Placement.the-variants.{NoPlace, BallAt, PlayerAt}
+use Rattle.geometry.specs.Geometry.{sideToSign, teamX, isOnOwnGoalLine, markX}
+use Rattle.game.specs.declared.Placement.{Placement}
+use Rattle.game.specs.declared.Placement.the-variants.{NoPlace, BallAt, PlayerAt}
 
 -- ---- the middles of lines; the sizes of the field reach to their outer edges
 -- of a goal line
@@ -160,11 +159,6 @@ checkedKeeperPlace f side number sign unpenalized p = cond (unpenalized && not (
 abbrev pub seenKeeperPlace : SeenPose → SideMapping → FieldDimensions → Side → ℕ → Penalty → Placement
 seenKeeperPlace Absent sides f side number penalty = NoPlace
 seenKeeperPlace (Present p) sides f side number penalty = checkedKeeperPlace f side number (sideToSign side sides) (isUnpenalized penalty) p
-
--- the player with a number; nobody has the number 0
-abbrev pub playerNumbered : Team → ℕ → Player
-playerNumbered t zero = nobody
-playerNumbered t (suc i) = playerAt t i
 
 -- the place of the player with this number
 abbrev pub numberedKeeperPlace : ℕ → SideMapping → FieldDimensions → Side → Team → Placement

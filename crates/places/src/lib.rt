@@ -1,12 +1,13 @@
 // Where the ball and the players are placed.
 ghost use mathlib.Core.Path.{_≡_};
 ghost use Rattle.places.specs.Places as Spec;
+use floats::PI;
 use game::Ball;
 use game::FieldDimensions;
 use game::Game;
 use game::MaybeNumber;
 use game::MaybeSide;
-use game::Penalty;
+use game::Placement;
 use game::Player;
 use game::PlayerPose;
 use game::SeenPose;
@@ -15,77 +16,7 @@ use game::Side;
 use game::SideMapping;
 use game::Team;
 
-// The f32 nearest to pi.
-const PI: f32 = 3.14159274;
-
-// A place for the ball, its x, y and z, or for a player, its x, y and heading.
-pub enum Placement {
-    NoPlace,
-    BallAt(f32, f32, f32),
-    PlayerAt {
-        side: Side,
-        number: u8,
-        x: f32,
-        y: f32,
-        theta: f32,
-    },
-}
-
-// The ball's place in a goal kick: the corner of the goal area on the ball's side.
-fn goal_kick_place(field: FieldDimensions, ball: Ball) -> Placement
-    ensures { λ r. ⌜ r ≡ Spec.goalKickPlace field ball ⌝ }
-{
-    let line_x = field.length * 0.5 - field.goal_area_length + field.line_width * 0.5;
-    let line_y = field.goal_area_width * 0.5 - field.line_width * 0.5;
-    let x = floats::copysign(line_x, ball.x);
-    let y = floats::copysign(line_y, ball.y);
-    Placement::BallAt(x, y, field.ball_radius)
-}
-
-// The ball's place in a corner kick: the corner of the field on the ball's side.
-fn corner_kick_place(field: FieldDimensions, ball: Ball) -> Placement
-    ensures { λ r. ⌜ r ≡ Spec.cornerKickPlace field ball ⌝ }
-{
-    let line_x = field.length * 0.5 - field.line_width * 0.5;
-    let line_y = field.width * 0.5 - field.line_width * 0.5;
-    let x = floats::copysign(line_x, ball.x);
-    let y = floats::copysign(line_y, ball.y);
-    Placement::BallAt(x, y, field.ball_radius)
-}
-
-// The ball's place in a throw-in: on the touchline, where the ball left the field.
-fn throw_in_place(field: FieldDimensions, ball: Ball) -> Placement
-    ensures { λ r. ⌜ r ≡ Spec.throwInPlace field ball ⌝ }
-{
-    let line_x = field.length * 0.5 - field.line_width * 0.5;
-    let line_y = field.width * 0.5 - field.line_width * 0.5;
-    let x = floats::clamp(ball.x, -line_x, line_x);
-    let y = floats::copysign(line_y, ball.y);
-    Placement::BallAt(x, y, field.ball_radius)
-}
-
-// The ball's own place on the field, put down.
-fn own_place(field: FieldDimensions, ball: Ball) -> Placement
-    ensures { λ r. ⌜ r ≡ Spec.ownPlace field ball ⌝ }
-{
-    Placement::BallAt(ball.x, ball.y, field.ball_radius)
-}
-
-// The ball's place in an indirect free kick of the team with this sign. Inside the opponents' penalty area it goes back to the line parallel
-// to the goal line.
-fn area_free_kick_place(field: FieldDimensions, ball: Ball, sign: f32) -> Placement
-    ensures { λ r. ⌜ r ≡ Spec.areaFreeKickPlace field ball sign ⌝ }
-{
-    let line_x = field.length * 0.5 - field.penalty_area_length + field.line_width * 0.5;
-    let half_width = field.penalty_area_width * 0.5 - field.line_width * 0.5;
-    let y = floats::abs(ball.y);
-    if (sign * ball.x > line_x) & (y <= half_width) {
-        return Placement::BallAt(sign * line_x, ball.y, field.ball_radius);
-    }
-    own_place(field, ball)
-}
-
-// The ball's place in an indirect free kick.
+// The ball's place in an indirect free kick. Inside the opponents' penalty area it goes back to the line parallel to the goal line.
 fn free_kick_place(
     field: FieldDimensions,
     ball: Ball,
@@ -95,47 +26,52 @@ fn free_kick_place(
     ensures { λ r. ⌜ r ≡ Spec.freeKickPlace field ball «kicking_side» sides ⌝ }
 {
     match kicking_side {
-        MaybeSide::NoSide => own_place(field, ball),
+        MaybeSide::NoSide => Placement::BallAt(ball.x, ball.y, field.ball_radius),
         MaybeSide::Of(side) => {
-            let sign = rules::side_to_sign(side, sides);
-            area_free_kick_place(field, ball, sign)
+            let sign = geometry::side_to_sign(side, sides);
+            let y = floats::abs(ball.y);
+            let line_x = field.length * 0.5 - field.penalty_area_length + field.line_width * 0.5;
+            let half_width = field.penalty_area_width * 0.5 - field.line_width * 0.5;
+            if (sign * ball.x > line_x) & (y <= half_width) {
+                return Placement::BallAt(sign * line_x, ball.y, field.ball_radius);
+            }
+            Placement::BallAt(ball.x, ball.y, field.ball_radius)
         }
     }
 }
 
-// The ball's place in a set play that starts during Playing.
+// The ball's place in a set play that starts during Playing: the corner of the goal area or of the field on the ball's side, or the touchline where the ball
+// left the field. The sizes of the field reach to the outer edges of lines, and balls are placed on their middles.
 pub fn place_ball_at_restart(game: Game, field: FieldDimensions, ball: Ball) -> Placement
     ensures { λ r. ⌜ r ≡ Spec.ballAtRestart game field ball ⌝ }
 {
     let set_play = game.set_play;
     let kicking_side = game.kicking_side;
     let sides = game.sides;
+    let goal_line_x = field.length * 0.5 - field.line_width * 0.5;
+    let touchline_y = field.width * 0.5 - field.line_width * 0.5;
     match set_play {
-        SetPlay::NoSetPlay => Placement::NoPlace,
-        SetPlay::KickOff => Placement::NoPlace,
-        SetPlay::DirectFreeKick => own_place(field, ball),
+        SetPlay::GoalKick => {
+            let area_x = field.length * 0.5 - field.goal_area_length + field.line_width * 0.5;
+            let area_y = field.goal_area_width * 0.5 - field.line_width * 0.5;
+            let x = floats::copysign(area_x, ball.x);
+            let y = floats::copysign(area_y, ball.y);
+            Placement::BallAt(x, y, field.ball_radius)
+        }
+        SetPlay::CornerKick => {
+            let x = floats::copysign(goal_line_x, ball.x);
+            let y = floats::copysign(touchline_y, ball.y);
+            Placement::BallAt(x, y, field.ball_radius)
+        }
+        SetPlay::ThrowIn => {
+            let x = floats::clamp(ball.x, -goal_line_x, goal_line_x);
+            let y = floats::copysign(touchline_y, ball.y);
+            Placement::BallAt(x, y, field.ball_radius)
+        }
         SetPlay::IndirectFreeKick => free_kick_place(field, ball, kicking_side, sides),
-        SetPlay::PenaltyKick => Placement::NoPlace,
-        SetPlay::ThrowIn => throw_in_place(field, ball),
-        SetPlay::GoalKick => goal_kick_place(field, ball),
-        SetPlay::CornerKick => corner_kick_place(field, ball),
+        SetPlay::DirectFreeKick => Placement::BallAt(ball.x, ball.y, field.ball_radius),
+        _ => Placement::NoPlace,
     }
-}
-
-// The ball on the penalty mark that a team kicks from.
-fn mark_place(field: FieldDimensions, side: Side, sides: SideMapping) -> Placement
-    ensures { λ r. ⌜ r ≡ Spec.markPlace field side sides ⌝ }
-{
-    let sign = rules::side_to_sign(side, sides);
-    let mark_x = field.length * 0.5 - field.penalty_mark_distance;
-    Placement::BallAt(sign * mark_x, 0.0, field.ball_radius)
-}
-
-// The ball on the center mark.
-fn center_place(field: FieldDimensions) -> Placement
-    ensures { λ r. ⌜ r ≡ Spec.centerPlace field ⌝ }
-{
-    Placement::BallAt(0.0, 0.0, field.ball_radius)
 }
 
 // The ball on the mark of the kicking side, and another place without one.
@@ -149,29 +85,11 @@ fn mark_or(
 {
     match kicking_side {
         MaybeSide::NoSide => other,
-        MaybeSide::Of(side) => mark_place(field, side, sides),
-    }
-}
-
-// The ball's place when Set is entered outside a penalty shoot-out.
-fn set_play_place(
-    set_play: SetPlay,
-    field: FieldDimensions,
-    kicking_side: MaybeSide,
-    sides: SideMapping,
-) -> Placement
-    ensures { λ r. ⌜ r ≡ Spec.setPlayPlace «set_play» field «kicking_side» sides ⌝ }
-{
-    let center = center_place(field);
-    match set_play {
-        SetPlay::NoSetPlay => Placement::NoPlace,
-        SetPlay::KickOff => center,
-        SetPlay::DirectFreeKick => Placement::NoPlace,
-        SetPlay::IndirectFreeKick => Placement::NoPlace,
-        SetPlay::PenaltyKick => mark_or(field, kicking_side, sides, center),
-        SetPlay::ThrowIn => Placement::NoPlace,
-        SetPlay::GoalKick => Placement::NoPlace,
-        SetPlay::CornerKick => Placement::NoPlace,
+        MaybeSide::Of(side) => {
+            let sign = geometry::side_to_sign(side, sides);
+            let mark_x = field.length * 0.5 - field.penalty_mark_distance;
+            Placement::BallAt(sign * mark_x, 0.0, field.ball_radius)
+        }
     }
 }
 
@@ -187,27 +105,16 @@ pub fn place_ball_in_set(game: Game, field: FieldDimensions) -> Placement
     if shootout {
         return mark_or(field, kicking_side, sides, Placement::NoPlace);
     }
-    set_play_place(set_play, field, kicking_side, sides)
-}
-
-// The heading towards the opponents' goal.
-fn heading(sign: f32) -> f32
-    ensures { λ r. ⌜ r ≡ Spec.heading sign ⌝ }
-{
-    if sign > 0.0 { 0.0 } else { PI }
-}
-
-// A player's x in its team's coordinates in a penalty shot: the striker on the line of the opponents' penalty area, the goalkeeper on its goal line.
-fn shot_x(field: FieldDimensions, striker: bool) -> f32
-    ensures { λ r. ⌜ r ≡ Spec.shotX field striker ⌝ }
-{
-    if striker {
-        return field.length * 0.5 - field.penalty_area_length + field.line_width * 0.5;
+    let center = Placement::BallAt(0.0, 0.0, field.ball_radius);
+    match set_play {
+        SetPlay::KickOff => center,
+        SetPlay::PenaltyKick => mark_or(field, kicking_side, sides, center),
+        _ => Placement::NoPlace,
     }
-    -(field.length * 0.5 - field.line_width * 0.5)
 }
 
-// The place of a present player in a penalty shot.
+// The place of a present player in a penalty shot: the striker on the line of the opponents' penalty area, the goalkeeper on its goal line, either with its heading
+// towards the opponents' goal.
 fn shot_place(
     sides: SideMapping,
     field: FieldDimensions,
@@ -217,10 +124,19 @@ fn shot_place(
 ) -> Placement
     ensures { λ r. ⌜ r ≡ Spec.shotPlace sides field side number «kicking_side» ⌝ }
 {
-    let sign = rules::side_to_sign(side, sides);
-    let striker = game::same_side(side, kicking_side);
-    let team_x = shot_x(field, striker);
-    let theta = heading(sign);
+    let sign = geometry::side_to_sign(side, sides);
+    let theta = if sign > 0.0 { 0.0 } else { PI };
+    if game::same_side(side, kicking_side) {
+        let team_x = field.length * 0.5 - field.penalty_area_length + field.line_width * 0.5;
+        return Placement::PlayerAt {
+            side,
+            number,
+            x: sign * team_x,
+            y: 0.0,
+            theta,
+        };
+    }
+    let team_x = -(field.length * 0.5 - field.line_width * 0.5);
     Placement::PlayerAt {
         side,
         number,
@@ -252,30 +168,9 @@ pub fn place_for_penalty_shot(
     }
 }
 
-// The place of a goalkeeper at this pose: the closest point of its goal line between the posts, its heading kept.
+// The place of an unpenalised goalkeeper at this pose: the closest point of its goal line between the posts, its heading kept; none where it is on that line
+// already.
 fn keeper_place(
-    field: FieldDimensions,
-    side: Side,
-    number: u8,
-    sign: f32,
-    pose: PlayerPose,
-) -> Placement
-    ensures { λ r. ⌜ r ≡ Spec.keeperPlace field side number sign pose ⌝ }
-{
-    let line_x = field.length * 0.5 - field.line_width * 0.5;
-    let max_y = floats::max(field.goal_width * 0.5 - pose.radius, 0.0);
-    let y = floats::clamp(pose.y, -max_y, max_y);
-    Placement::PlayerAt {
-        side,
-        number,
-        x: sign * -line_x,
-        y,
-        theta: pose.theta,
-    }
-}
-
-// The same, none for a penalised goalkeeper and for one that is on its goal line already.
-fn checked_keeper_place(
     field: FieldDimensions,
     side: Side,
     number: u8,
@@ -285,57 +180,20 @@ fn checked_keeper_place(
 ) -> Placement
     ensures { λ r. ⌜ r ≡ Spec.checkedKeeperPlace field side number sign unpenalized pose ⌝ }
 {
-    let on_line = rules::is_on_own_goal_line(sign * pose.x, pose, field);
+    let on_line = geometry::is_on_own_goal_line(sign * pose.x, pose, field);
+    let line_x = field.length * 0.5 - field.line_width * 0.5;
+    let max_y = floats::max(field.goal_width * 0.5 - pose.radius, 0.0);
+    let y = floats::clamp(pose.y, -max_y, max_y);
     if unpenalized & !on_line {
-        return keeper_place(field, side, number, sign, pose);
+        return Placement::PlayerAt {
+            side,
+            number,
+            x: sign * -line_x,
+            y,
+            theta: pose.theta,
+        };
     }
     Placement::NoPlace
-}
-
-// The same for a pose as the situation holds it, none where the player is absent.
-fn seen_keeper_place(
-    sides: SideMapping,
-    field: FieldDimensions,
-    side: Side,
-    number: u8,
-    pose: SeenPose,
-    penalty: Penalty,
-) -> Placement
-    ensures { λ r. ⌜ r ≡ Spec.seenKeeperPlace pose sides field side number penalty ⌝ }
-{
-    let sign = rules::side_to_sign(side, sides);
-    let unpenalized = game::is_unpenalized(penalty);
-    match pose {
-        SeenPose::Absent => Placement::NoPlace,
-        SeenPose::Present(p) => checked_keeper_place(field, side, number, sign, unpenalized, p),
-    }
-}
-
-// The player with a number; nobody has the number 0.
-pub fn player_numbered(team: Team, number: u8) -> Player
-    ensures { λ r. ⌜ r ≡ Spec.playerNumbered team number ⌝ }
-{
-    if number == 0 {
-        return game::player_at(team, 20);
-    }
-    let i = (number - 1) as usize;
-    game::player_at(team, i)
-}
-
-// The place of the goalkeeper with this number.
-fn numbered_keeper_place(
-    sides: SideMapping,
-    field: FieldDimensions,
-    side: Side,
-    team: Team,
-    number: u8,
-) -> Placement
-    ensures { λ r. ⌜ r ≡ Spec.numberedKeeperPlace number sides field side team ⌝ }
-{
-    let player = player_numbered(team, number);
-    let pose = player.pose;
-    let penalty = player.penalty;
-    seen_keeper_place(sides, field, side, number, pose, penalty)
 }
 
 // The place of a side's goalkeeper when Set is entered for a penalty kick.
@@ -351,6 +209,16 @@ pub fn place_penalty_goalkeeper(
     let sides = game.sides;
     match goalkeeper {
         MaybeNumber::NoNumber => Placement::NoPlace,
-        MaybeNumber::Number(number) => numbered_keeper_place(sides, field, side, team, number),
+        MaybeNumber::Number(number) => {
+            let player = game::player_numbered(team, number);
+            let pose = player.pose;
+            let penalty = player.penalty;
+            let sign = geometry::side_to_sign(side, sides);
+            let unpenalized = game::is_unpenalized(penalty);
+            match pose {
+                SeenPose::Absent => Placement::NoPlace,
+                SeenPose::Present(p) => keeper_place(field, side, number, sign, unpenalized, p),
+            }
+        }
     }
 }

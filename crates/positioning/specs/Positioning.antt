@@ -1,11 +1,10 @@
 -- Where a player may stand in a set play. Definitions only.
 use mathlib.Core.Bool.{Bool, true, false, not, _&&_, _||_}
 use Prim.Native.Nat.{ℕ}
-use lib.Ieee.{Float, neg, lt, le}
-use Rattle.floats.specs.Arithmetic.{_+₃₂_, _-₃₂_, _*₃₂_, zero32, half}
-use Rattle.floats.specs.Leaves.{abs}
-use Rattle.floats.specs.Hypot.{hypot}
-use Rattle.game.specs.Game.{opponent, isSide, isNumber, isShootout, isSet, isPlaying, isUnpenalized}
+use lib.Ieee.{Float, neg, lt}
+use Rattle.floats.specs.Arithmetic.{_-₃₂_}
+use Rattle.hypot.specs.Hypot.{hypot}
+use Rattle.game.specs.Game.{isSide, isNumber, isShootout, isSet, isPlaying, isUnpenalized}
 use Rattle.game.specs.declared.Ball.{Ball}
 use Rattle.game.specs.declared.FieldDimensions.{FieldDimensions}
 use Rattle.game.specs.declared.Game.{Game}
@@ -13,8 +12,6 @@ use Rattle.game.specs.declared.Margins.{Margins}
 use Rattle.game.specs.declared.MaybeMargins.{MaybeMargins}
 use Rattle.game.specs.declared.MaybeMargins.the-variants.{NoMargins, Known}
 use Rattle.game.specs.declared.MaybeNumber.{MaybeNumber}
-use Rattle.game.specs.declared.MaybeSide.{MaybeSide}
-use Rattle.game.specs.declared.MaybeSide.the-variants.{NoSide, Of}
 use Rattle.game.specs.declared.Penalty.{Penalty}
 use Rattle.game.specs.declared.Player.{Player}
 use Rattle.game.specs.declared.PlayerPose.{PlayerPose}
@@ -24,101 +21,17 @@ use Rattle.game.specs.declared.SetPlay.{SetPlay}
 use Rattle.game.specs.declared.SetPlay.the-variants.{NoSetPlay, KickOff, DirectFreeKick, IndirectFreeKick, PenaltyKick, ThrowIn, GoalKick, CornerKick}
 use Rattle.game.specs.declared.Side.{Side}
 use Rattle.game.specs.declared.State.{State}
-use Rattle.geometry.specs.Geometry.{sideToSign, teamX, isOnOwnGoalLine}
-use Rattle.positioning.specs.declared.Positioning.{Positioning}
-use Rattle.positioning.specs.declared.Positioning.the-variants.{Legal, Illegal, IllegalUnlessKicker, InAvoidanceRegion}
-
--- document 01's number of a verdict
-abbrev pub positioningCode : Positioning → ℕ
-positioningCode Legal = 0
-positioningCode Illegal = 1
-positioningCode IllegalUnlessKicker = 2
-positioningCode InAvoidanceRegion = 3
+use Rattle.avoidance.specs.Avoidance.{isInAvoidanceRegion}
+use Rattle.geometry.specs.Geometry.{sideToSign, teamX, inCircle, onMark, isInside, inOpponentHalf, markX}
+use Rattle.game.specs.declared.Positioning.{Positioning}
+use Rattle.game.specs.declared.Positioning.the-variants.{Legal, Illegal, IllegalUnlessKicker, InAvoidanceRegion}
 
 -- the first verdict where the test holds, else the second
 abbrev pub choose : Bool → Positioning → Positioning → Positioning
 choose true v w = v
 choose false v w = w
 
--- ---- the avoidance region of a free kick
--- there is a side
-abbrev pub isSome : MaybeSide → Bool
-isSome NoSide = false
-isSome (Of side) = true
-
--- free kicks, goal kicks, corner kicks and throw-ins
-abbrev pub hasAvoidanceRegion : SetPlay → Bool
-hasAvoidanceRegion NoSetPlay = false
-hasAvoidanceRegion KickOff = false
-hasAvoidanceRegion DirectFreeKick = true
-hasAvoidanceRegion IndirectFreeKick = true
-hasAvoidanceRegion PenaltyKick = false
-hasAvoidanceRegion ThrowIn = true
-hasAvoidanceRegion GoalKick = true
-hasAvoidanceRegion CornerKick = true
-
--- a goal kick
-abbrev pub isGoalKick : SetPlay → Bool
-isGoalKick NoSetPlay = false
-isGoalKick KickOff = false
-isGoalKick DirectFreeKick = false
-isGoalKick IndirectFreeKick = false
-isGoalKick PenaltyKick = false
-isGoalKick ThrowIn = false
-isGoalKick GoalKick = true
-isGoalKick CornerKick = false
-
--- play runs outside a shoot-out, and a side takes a set play that has a region
-unfoldable pub isAvoidanceRegionActive : Game → Bool
-isAvoidanceRegionActive g = not (isShootout (g .phase)) && isPlaying (g .state) && not (g .stopped) && isSome (g .«kicking_side») && hasAvoidanceRegion (g .«set_play»)
-
--- a player at this distance from a point reaches into the circle of this radius about it
-abbrev pub reaches : Float → Float → PlayerPose → Bool
-reaches distance radius p = lt distance (radius +₃₂ p .radius)
-
--- it reaches into the circle of the centre circle's size about a point at this distance
-abbrev pub inCircle : Float → FieldDimensions → PlayerPose → Bool
-inCircle distance f p = reaches distance (f .«center_circle_radius») p
-
--- it stands on the mark at this distance
-abbrev pub onMark : Float → FieldDimensions → PlayerPose → Bool
-onMark distance f p = reaches distance (f .«mark_radius») p
-
--- the margin is that of a player of whom a part is inside
-abbrev pub isInside : Float → Bool
-isInside margin = lt zero32 margin
-
--- the ball is in the penalty area of the team with this sign, its lines included
-abbrev pub isBallInOwnPenaltyArea : Ball → FieldDimensions → Float → Bool
-isBallInOwnPenaltyArea b f sign = le (sign *₃₂ b .x) (neg (f .length) *₃₂ half +₃₂ f .«penalty_area_length») && le (abs (b .y)) (f .«penalty_area_width» *₃₂ half)
-
--- The circle about the ball; at a goal kick the kicking team's penalty area too; and the player's own penalty area, if the ball is in it. A player on its own goal line is exempt.
-unfoldable pub isInRegion : SetPlay → FieldDimensions → Ball → Float → PlayerPose → Margins → Bool
-isInRegion play f b sign p m =
-    not (isOnOwnGoalLine (teamX sign p) p f)
-    && (inCircle (hypot (p .x -₃₂ b .x) (p .y -₃₂ b .y)) f p
-    || (isGoalKick play && isInside (m .«opponent_penalty_area»))
-    || (isBallInOwnPenaltyArea b f sign && isInside (m .«own_penalty_area»)))
-
--- the same where pose and margins are there
-abbrev pub isSeenInRegion : SeenPose → MaybeMargins → Game → FieldDimensions → Ball → Side → Bool
-isSeenInRegion Absent m g f b side = false
-isSeenInRegion (Present p) NoMargins g f b side = false
-isSeenInRegion (Present p) (Known m) g f b side = isInRegion (g .«set_play») f b (sideToSign side (g .sides)) p m
-
--- an unpenalised player of the side against which the kick is taken
-abbrev pub mustAvoid : Game → Side → Penalty → Bool
-mustAvoid g side penalty = isAvoidanceRegionActive g && isSide (g .«kicking_side») (opponent side) && isUnpenalized penalty
-
--- a player that has to keep out of the region is in it
-unfoldable pub isInAvoidanceRegion : Game → FieldDimensions → Ball → Side → Player → MaybeMargins → Bool
-isInAvoidanceRegion g f b side player m = mustAvoid g side (player .penalty) && isSeenInRegion (player .pose) m g f b side
-
 -- ---- kick-off
--- the player reaches over the halfway line
-abbrev pub inOpponentHalf : PlayerPose → FieldDimensions → Float → Bool
-inOpponentHalf p f x = lt (neg (f .«line_width» *₃₂ half +₃₂ p .radius)) x
-
 -- The kicking team: nobody on the mark, and in the other half only the kicker, in the centre circle. The others: neither in the other half nor in the circle.
 abbrev pub kickOffTable : Bool → Bool → Bool → Bool → Positioning
 kickOffTable kicking mark opponentHalf circle =
@@ -130,10 +43,6 @@ kickOffVerdict state kicking f sign p =
     let center = hypot (p .x) (p .y) in kickOffTable kicking (isSet state && onMark center f p) (inOpponentHalf p f (teamX sign p)) (inCircle center f p)
 
 -- ---- penalty kick
--- the x of the mark from which the kicking team shoots, as that team sees it
-abbrev pub markX : FieldDimensions → Float
-markX f = f .length *₃₂ half -₃₂ f .«penalty_mark_distance»
-
 -- Illegal, or legal
 abbrev pub illegalIf : Bool → Positioning
 illegalIf illegal = choose illegal Illegal Legal

@@ -1,20 +1,19 @@
 -- What the entries' definitions give in each case that the code tells apart. Assumes nothing.
-use mathlib.Core.Path.{_≡_, ap, ap₂, sym, _∙_}
+use mathlib.Core.Path.{_≡_, ap, sym, _∙_}
 use mathlib.Core.Bool.{Bool, true, false, cond}
 use mathlib.Core.List.{List}
-use Prim.Native.Nat.{ℕ, _<_, _≤_, _*_}
+use Prim.Native.Nat.{ℕ, _≤_}
 use native.Mathlib.Omega.{arith}
 use borrow.Author.Tests.{eq-eqb, ne-eqb}
-use lib.Dec.{eqb}
 use lib.Ieee.{Float}
-use lib.IntN.{ℤ, pos}
+use lib.IntN.{pos}
 use lib.ListN.{length, drop, length-append}
 use Rattle.lists.specs.Put.{fronted}
 use Rattle.game.specs.declared.Situation.{Situation}
 use Rattle.candidates.specs.Candidates.{refusalOf, answerOf}
 use Rattle.columns.specs.Columns.{isSituation}
 use Rattle.words.specs.Words.{situationOf}
-use Rattle.sheet.specs.Sheet.{sheetAnswer, sheetAfter}
+use Rattle.call.specs.Call.{sheetAnswer, sheetAfter}
 use Rattle.sheet.specs.declared.text.SheetAnswer.{SheetAnswer}
 use Rattle.referee_c.specs.Entries.{minus, answerNumber, sheetNumber, sheetBytes, candidatesNumber}
 

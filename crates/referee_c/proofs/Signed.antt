@@ -1,11 +1,11 @@
 -- Small numbers with a sign, as an i64 holds them. Assumes nothing.
-use mathlib.Core.Path.{_≡_, refl, ap, sym, _∙_}
-use Prim.Native.Nat.{ℕ, zero, suc, _<_, _^_}
+use mathlib.Core.Path.{_≡_, ap, _∙_}
+use Prim.Native.Nat.{ℕ, zero, suc, _<_}
 use native.Mathlib.Omega.{arith}
-use lib.IntN.{ℤ, pos, negsuc, negℤ, _-ℤ_, +ℤ-idl}
+use lib.IntN.{ℤ, pos, negℤ, _-ℤ_, +ℤ-idl}
 use mir.Syntax.{w64}
-use mir.Val.{SFits, toZ, ofZ}
-use mir.ValLaws.{toZ-pos, toZ-ofZ}
+use mir.Val.{SFits, toZ}
+use mir.ValLaws.{toZ-pos}
 use Rattle.referee_c.specs.Entries.{minus}
 
 pub minus-fits : (n : ℕ) → n < 256 → SFits w64 (minus n)

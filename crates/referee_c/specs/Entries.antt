@@ -9,7 +9,7 @@ use lib.ListN.{length}
 use Rattle.candidates.specs.Candidates.{refusalOf, answerOf}
 use Rattle.columns.specs.Columns.{isSituation}
 use Rattle.words.specs.Words.{situationOf}
-use Rattle.sheet.specs.Sheet.{sheetAnswer, sheetAfter}
+use Rattle.call.specs.Call.{sheetAnswer, sheetAfter}
 use Rattle.sheet.specs.declared.text.SheetAnswer.{SheetAnswer}
 use Rattle.sheet.specs.declared.text.SheetAnswer.the-variants.{Refused, Written}
 

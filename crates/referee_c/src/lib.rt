@@ -4,7 +4,7 @@ ghost use Prim.Native.Nat.{_<_};
 ghost use lib.ListN.{length};
 ghost use Rattle.lists.specs.Put.{fronted};
 ghost use Rattle.floats.specs.Leaves.{remEuclid};
-ghost use Rattle.floats.specs.Hypot.{hypot};
+ghost use Rattle.hypot.specs.Hypot.{hypot};
 ghost use Rattle.geometry.specs.Geometry.{normalizeAngle};
 ghost use Rattle.candidates.specs.Candidates.{answerOf};
 ghost use Rattle.sheet.specs.Sheet.{bytesIn};
@@ -42,7 +42,7 @@ pub extern "C" fn referee_sheet<'a>(
 {
     if columns::is_situation(words) {
         let s = words::situation_of(words);
-        let answer = sheet::write_sheet(s, xs, ys, sheet);
+        let answer = call::write_sheet(s, xs, ys, sheet);
         return answer_number(answer);
     }
     minus(100)
@@ -73,7 +73,7 @@ pub extern "C" fn referee_candidates(
 pub extern "C" fn referee_hypot(x: f32, y: f32) -> f32
     ensures { λ r. ⌜ r ≡ hypot x y ⌝ }
 {
-    floats::hypot(x, y)
+    hypot::hypot(x, y)
 }
 
 #[no_mangle]

@@ -4,12 +4,12 @@ use mathlib.Core.Bool.{Bool, true, false, _&&_}
 use mathlib.Core.List.{List, map}
 use Prim.Native.Nat.{ℕ}
 use lib.Dec.{leb, eqb}
-use lib.ListN.{length, getD, List·getD-map}
+use lib.ListN.{length, getD}
 use lib.Ieee.{Float, nan, neg, le}
 use Rattle.lists.specs.Every.{everyTo}
 use Rattle.lists.proofs.Every.{every-same}
 use Rattle.lists.proofs.Lengths.{length-map}
-use Rattle.floats.specs.Candidates.{sixtyFour}
+use Rattle.floats.specs.Arithmetic.{sixtyFour}
 use Rattle.floats.proofs.Laws.Signs.{neg-neg, le-neg}
 use Rattle.game.specs.Players.{playerAt}
 use Rattle.game.specs.declared.Ball.{Ball}
@@ -21,14 +21,9 @@ use Rattle.game.specs.declared.ReferencePose.{ReferencePose}
 use Rattle.game.specs.declared.ReferencePose.the-variants.{NoReference, Reference}
 use Rattle.game.specs.declared.Team.{Team}
 use Rattle.geometry.specs.Turned.{signed, changedPose, changedSeen, changedReference, changedPlayer, changedTeam, changedBall}
-use Rattle.positioning.proofs.Turned.{player-at-changed}
+use Rattle.geometry.proofs.Turned.{player-at-changed, place-at-changed}
+use Rattle.lists.proofs.Bools.{and-swap}
 use Rattle.refusals.specs.Refusals.{isCoordinate, isRadius, poseFits, seenFits, referenceFits, playerFits, teamFits, placesFit, listsFit, posesFit, ballFits}
-
-and-swap : (a b : Bool) → (a && b) ≡ (b && a)
-and-swap true true = refl
-and-swap true false = refl
-and-swap false true = refl
-and-swap false false = refl
 
 -- a coordinate of either sign
 pub coordinate-changed : (a : Bool) (x : Float) → isCoordinate (signed a x) ≡ isCoordinate x
@@ -54,15 +49,6 @@ player-fits-changed a b q = ap₂ (λ (u v : Bool). u && v && isCoordinate (q .a
 pub team-fits-changed : (a b : Bool) (t : Team) → teamFits (changedTeam a b t) ≡ teamFits t
 unfolding teamFits
 team-fits-changed a b t = every-same 20 (λ i. playerFits (playerAt (changedTeam a b t) i)) (λ i. playerFits (playerAt t i)) (λ i h. ap playerFits (player-at-changed a b t i) ∙ player-fits-changed a b (playerAt t i))
-
-signed-nan : (a : Bool) → signed a nan ≡ nan
-unfolding neg
-signed-nan true = refl
-signed-nan false = refl
-
--- the place k of a list of changed places
-pub place-at-changed : (a : Bool) (l : List Float) (k : ℕ) → getD (map (signed a) l) k nan ≡ signed a (getD l k nan)
-place-at-changed a l k = ap (getD (map (signed a) l) k) (sym (signed-nan a)) ∙ List·getD-map (signed a) l k nan
 
 pub places-fit-changed : (a : Bool) (l : List Float) → placesFit (map (signed a) l) ≡ placesFit l
 unfolding placesFit

@@ -1,14 +1,14 @@
 -- What is refused: conditions 1 to 5 of document 01's table, in their order. Definitions only.
-use mathlib.Core.Bool.{Bool, true, _&&_, _||_, cond}
+use mathlib.Core.Bool.{Bool, true, _&&_, _||_}
 use mathlib.Core.List.{List, [], _∷_}
 use Prim.Native.Nat.{ℕ}
 use lib.Dec.{leb, eqb}
 use lib.ListN.{length, getD}
-use lib.Ieee.{Float, nan, binary32, neg, lt, le, ofBits}
+use lib.Ieee.{Float, nan, neg, lt, le}
 use Rattle.lists.specs.Every.{everyTo}
-use Rattle.floats.specs.Arithmetic.{zero32, one}
-use Rattle.floats.specs.Candidates.{sixtyFour, sixtyFourth}
-use Rattle.game.specs.Players.{playerAt}
+use Rattle.lists.specs.Refusals.{Condition, firstRefusal}
+use Rattle.floats.specs.Arithmetic.{zero32, sixtyFourth, one, four, sixtyFour}
+use Rattle.game.specs.Players.{playerAt, minNumber, maxNumber}
 use Rattle.game.specs.declared.FieldDimensions.{FieldDimensions}
 use Rattle.game.specs.declared.PlayerPose.{PlayerPose}
 use Rattle.game.specs.declared.SeenPose.{SeenPose}
@@ -31,9 +31,6 @@ abbrev pub within : Float → Float → Float → Bool
 within lo x hi = le lo x && le x hi
 
 -- ---- 1: a field size is NaN or out of range
-abbrev pub four : Float
-four = ofBits binary32 0x4080_0000
-
 -- from 0 to 64
 abbrev pub isSize : Float → Bool
 isSize x = within zero32 x sixtyFour
@@ -80,16 +77,10 @@ referenceFits (Reference p) = poseFits p
 abbrev pub playerFits : Player → Bool
 playerFits p = seenFits (p .pose) && referenceFits (p .reference) && isCoordinate (p .allowance)
 
-abbrev pub playersFitMore : Player → Bool → Bool
-playersFitMore p b = b && playerFits p
-
 -- each of the 20 players
 unfoldable pub teamFits : Team → Bool
 unfolding everyTo
 teamFits t = everyTo 20 (λ i. playerFits (playerAt t i))
-
-abbrev pub placesFitMore : List Float → ℕ → Bool → Bool
-placesFitMore l i b = b && isCoordinate (getD l i nan)
 
 unfoldable pub placesFit : List Float → Bool
 unfolding everyTo
@@ -111,7 +102,7 @@ ballFits b = isCoordinate (b .x) && isCoordinate (b .y) && isCoordinate (b .z)
 -- ---- 4: a player number (goalkeeper, kicker, wished player) out of range
 -- PlayerNumber::MIN to MAX
 abbrev pub isPlayerNumber : ℕ → Bool
-isPlayerNumber n = leb 1 n && leb n 20
+isPlayerNumber n = leb minNumber n && leb n maxNumber
 
 abbrev pub numberFits : MaybeNumber → Bool
 numberFits NoNumber = true
@@ -136,20 +127,8 @@ numbersFit home away restart wish = numberFits home && numberFits away && restar
 abbrev pub distanceFits : Float → Bool
 distanceFits d = le d zero32 || le sixtyFourth d
 
--- ---- the table: what must hold, and the number of the refusal where it does not
-pub record Condition : Type 0 where
-  pub holds : Bool
-  pub number : ℕ
-
-abbrev pub unless : Condition → ℕ → ℕ
-unless c rest = cond (c .holds) rest (c .number)
-
--- the number of the first that does not hold, and 0 where all do
-abbrev pub firstFailing : List Condition → ℕ
-firstFailing [] = 0
-firstFailing (c ∷ cs) = unless c (firstFailing cs)
-
--- in the order of their numbers, so that the lowest wins
+-- ---- the table
+-- what must hold, in the order of the numbers, so that the lowest wins
 abbrev pub five : Bool → Bool → Bool → Bool → Bool → List Condition
 five field poses ball numbers distance =
     record { holds = field; number = 1 }
@@ -159,14 +138,18 @@ five field poses ball numbers distance =
     ∷ record { holds = distance; number = 5 }
     ∷ []
 
--- the number of the refusal, or 0 for none
-unfoldable pub refusalOf : Situation → List Float → List Float → ℕ
+-- of a situation and the earlier places of the batch
+unfoldable pub conditionsOf : Situation → List Float → List Float → List Condition
 unfolding fieldFits posesFit numbersFit
-refusalOf s xs ys =
-    firstFailing
-    (five
+conditionsOf s xs ys =
+    five
     (fieldFits (s .field))
     (posesFit (s .home) (s .away) xs ys)
     (ballFits (s .ball))
     (numbersFit (s .home .goalkeeper) (s .away .goalkeeper) (s .restart) (s .wish))
-    (distanceFits (s .«penalty_placement_distance»)))
+    (distanceFits (s .«penalty_placement_distance»))
+
+-- the number of the refusal, or 0 for none
+unfoldable pub refusalOf : Situation → List Float → List Float → ℕ
+unfolding conditionsOf
+refusalOf s xs ys = firstRefusal (conditionsOf s xs ys)

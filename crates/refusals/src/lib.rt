@@ -1,9 +1,7 @@
 // What is no situation that can be judged: refusals 1 to 5 of document 01, the lowest number first.
 ghost use mathlib.Core.Path.{_≡_};
-ghost use lib.ListN.{length};
-ghost use Prim.Native.Nat.{_<_};
+ghost use Rattle.lists.specs.Refusals.{firstRefusal};
 ghost use Rattle.refusals.specs.Refusals as Spec;
-use game::Ball;
 use game::FieldDimensions;
 use game::MaybeNumber;
 use game::MaybeRestart;
@@ -53,16 +51,13 @@ fn is_coordinate(x: f32) -> bool
     is_within(-64.0, x, 64.0)
 }
 
-fn is_radius(r: f32) -> bool
-    ensures { λ b. ⌜ b ≡ Spec.isRadius r ⌝ }
-{
-    (0.0 < r) & (r <= 1.0)
-}
-
 fn pose_fits(p: PlayerPose) -> bool
     ensures { λ r. ⌜ r ≡ Spec.poseFits p ⌝ }
 {
-    is_coordinate(p.x) & is_coordinate(p.y) & is_coordinate(p.theta) & is_radius(p.radius)
+    is_coordinate(p.x)
+        & is_coordinate(p.y)
+        & is_coordinate(p.theta)
+        & ((0.0 < p.radius) & (p.radius <= 1.0))
 }
 
 fn seen_fits(pose: SeenPose) -> bool
@@ -83,18 +78,13 @@ fn reference_fits(pose: ReferencePose) -> bool
     }
 }
 
+// By `&` of two tests: one `match` in the other has the test of a pose four times, and the loop over a team is then no longer compiled into its caller.
 fn player_fits(p: Player) -> bool
     ensures { λ r. ⌜ r ≡ Spec.playerFits p ⌝ }
 {
     let pose = p.pose;
     let reference = p.reference;
     seen_fits(pose) & reference_fits(reference) & is_coordinate(p.allowance)
-}
-
-fn players_fit_more(player: Player, so_far: bool) -> bool
-    ensures { λ r. ⌜ r ≡ Spec.playersFitMore player «so_far» ⌝ }
-{
-    so_far & player_fits(player)
 }
 
 fn team_fits(team: Team) -> bool
@@ -105,17 +95,10 @@ fn team_fits(team: Team) -> bool
     let mut i: usize = 0;
     while i < 20 {
         let player = players[i];
-        ok = players_fit_more(player, ok);
+        ok = ok & player_fits(player);
         i += 1;
     }
     ok
-}
-
-fn places_fit_more(places: &[f32], i: usize, so_far: bool) -> bool
-    requires { ⌜ i < length (now places) ⌝ }
-    ensures { λ r. ⌜ r ≡ Spec.placesFitMore (now (places .entry)) i «so_far» ⌝ }
-{
-    so_far & is_coordinate(places[i])
 }
 
 fn places_fit(places: &[f32]) -> bool
@@ -124,28 +107,16 @@ fn places_fit(places: &[f32]) -> bool
     let mut ok = true;
     let mut i: usize = 0;
     while i < places.len() {
-        ok = places_fit_more(places, i, ok);
+        ok = ok & is_coordinate(places[i]);
         i += 1;
     }
     ok
 }
 
-fn lists_fit<'a>(xs: &'a [f32], ys: &'a [f32]) -> bool
-    ensures { λ r. ⌜ r ≡ Spec.listsFit (now (xs .entry)) (now (ys .entry)) ⌝ }
-{
-    (xs.len() == ys.len()) & (xs.len() <= 4096) & places_fit(xs) & places_fit(ys)
-}
-
-fn ball_fits(b: Ball) -> bool
-    ensures { λ r. ⌜ r ≡ Spec.ballFits b ⌝ }
-{
-    is_coordinate(b.x) & is_coordinate(b.y) & is_coordinate(b.z)
-}
-
 fn is_player_number(n: u8) -> bool
     ensures { λ r. ⌜ r ≡ Spec.isPlayerNumber n ⌝ }
 {
-    (1 <= n) & (n <= 20)
+    (game::MIN <= n) & (n <= game::MAX)
 }
 
 fn number_fits(n: MaybeNumber) -> bool
@@ -182,45 +153,34 @@ fn wish_fits(wish: Wish) -> bool
     }
 }
 
-fn distance_fits(d: f32) -> bool
-    ensures { λ r. ⌜ r ≡ Spec.distanceFits d ⌝ }
-{
-    (d <= 0.0) | (0.015625 <= d)
-}
-
 fn poses_fit<'a>(home: Team, away: Team, xs: &'a [f32], ys: &'a [f32]) -> bool
     ensures { λ r. ⌜ r ≡ Spec.posesFit home away (now (xs .entry)) (now (ys .entry)) ⌝ }
 {
-    team_fits(home) & team_fits(away) & lists_fit(xs, ys)
-}
-
-fn numbers_fit(home: MaybeNumber, away: MaybeNumber, restart: MaybeRestart, wish: Wish) -> bool
-    ensures { λ r. ⌜ r ≡ Spec.numbersFit home away restart wish ⌝ }
-{
-    number_fits(home) & number_fits(away) & restart_fits(restart) & wish_fits(wish)
+    team_fits(home)
+        & team_fits(away)
+        & ((xs.len() == ys.len()) & (xs.len() <= 4096) & places_fit(xs) & places_fit(ys))
 }
 
 // The number of the first of the five that does not hold, or 0.
 fn first_failing(field: bool, poses: bool, ball: bool, numbers: bool, distance: bool) -> u8
-    ensures { λ r. ⌜ r ≡ Spec.firstFailing (Spec.five field poses ball numbers distance) ⌝ }
+    ensures { λ r. ⌜ r ≡ firstRefusal (Spec.five field poses ball numbers distance) ⌝ }
 {
-    if field {
-        if poses {
-            if ball {
-                if numbers {
-                    if distance { 0 } else { 5 }
-                } else {
-                    4
-                }
-            } else {
-                3
-            }
-        } else {
-            2
-        }
-    } else {
-        1
+    if !field {
+        return 1;
     }
+    if !poses {
+        return 2;
+    }
+    if !ball {
+        return 3;
+    }
+    if !numbers {
+        return 4;
+    }
+    if !distance {
+        return 5;
+    }
+    0
 }
 
 // The number of the first refusal, or 0 for none.
@@ -235,10 +195,14 @@ pub fn refusal<'a>(s: Situation, xs: &'a [f32], ys: &'a [f32]) -> u8
     let away_goalkeeper = away.goalkeeper;
     let restart = s.restart;
     let wish = s.wish;
+    let distance = s.penalty_placement_distance;
     let a = field_fits(field);
     let b = poses_fit(home, away, xs, ys);
-    let c = ball_fits(ball);
-    let d = numbers_fit(home_goalkeeper, away_goalkeeper, restart, wish);
-    let e = distance_fits(s.penalty_placement_distance);
+    let c = is_coordinate(ball.x) & is_coordinate(ball.y) & is_coordinate(ball.z);
+    let d = number_fits(home_goalkeeper)
+        & number_fits(away_goalkeeper)
+        & restart_fits(restart)
+        & wish_fits(wish);
+    let e = (distance <= 0.0) | (0.015625 <= distance);
     first_failing(a, b, c, d, e)
 }

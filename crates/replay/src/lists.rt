@@ -1,8 +1,7 @@
 // Four floats and the candidates for them, or the refusal.
-use super::records::count_of;
-use super::records::wide;
 use floats::bits;
 use floats::from_bits;
+use numbers::Reading;
 
 // What each lent place holds before a call; no candidate between bounds has it.
 const FILL: f32 = 1000.0;
@@ -25,6 +24,19 @@ fn query_of(patterns: &[u32; 4]) -> Query {
         max: from_bits(patterns[2]),
         step: from_bits(patterns[3]),
     }
+}
+
+// How many numbers were read; 0 also where something is no number.
+fn count_of(reading: Reading) -> usize {
+    match reading {
+        Reading::Read(n) => n,
+        Reading::NotANumber(_) => 0,
+        Reading::TooLarge(_) => 0,
+    }
+}
+
+fn wide(x: u32) -> usize {
+    x as usize
 }
 
 // The pattern at a place of a list; after its end a place is as it was lent.

@@ -1,18 +1,18 @@
 // Replays a fixed list of the original Rust's answers, read from standard input, and prints how many of them the code here agrees with. README.md says how
-// the list was made.
-//
-// A record is a head, an input and an answer. The head is a line of 45 bytes: four decimal numbers, each right-justified with blanks in 11 columns, and a line
-// feed. They are the record's kind, the room that is lent, the number of bytes of the input and the number of bytes of the answer, which follow.
+// the list was made, and the crate `records` has the form of a record.
 // Kind 1: the input is a situation as the program `judge` reads it, the room is a number of bytes, the answer is what is written into these.
 // Kind 2: the input is four patterns, start, min, max and step, the room is a number of places, the answer is the number of candidates and their patterns, or
 // 0 and the refusal.
 mod lists;
-mod records;
+mod reading;
 mod sheets;
 
 use libc::STDOUT_FILENO;
-use records::Outcome;
+use reading::Outcome;
 use std::num::wrapping_add_u64;
+
+// Room for the longest record: 45 bytes, 8,759 numbers of ten digits with a blank after each, and a sheet of 7,470 bytes.
+const ROOM: usize = 131072;
 
 // More records than any list has.
 const MOST: u32 = 100000;
@@ -65,8 +65,8 @@ fn counted(t: Tally, outcome: Outcome) -> Tally {
     }
 }
 
-// All records, up to the end of the input or the first broken one.
-fn replay() -> Tally {
+// All records, up to the end of the input or the first broken one. Each is read into the buffer.
+fn replay(buffer: &mut [u8]) -> Tally {
     let mut t = Tally {
         agree: 0,
         records: 0,
@@ -77,7 +77,7 @@ fn replay() -> Tally {
         if !t.open {
             return t;
         }
-        let outcome = records::next();
+        let outcome = reading::next(buffer);
         t = counted(t, outcome);
         left -= 1;
     }
@@ -85,7 +85,8 @@ fn replay() -> Tally {
 }
 
 fn main() {
-    let t = replay();
+    let mut buffer = [0u8; ROOM];
+    let t = replay(&mut buffer);
     if t.open {
         io::write_all(STDOUT_FILENO, b"there are more records than are read\n");
     }

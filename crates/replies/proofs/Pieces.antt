@@ -1,15 +1,15 @@
 -- A text written piece by piece at the front of lent bytes. Assumes nothing.
-use mathlib.Core.Path.{_≡_, refl, sym, ap, subst, _∙_}
-use mathlib.Core.Bool.{Bool, true, false}
+use mathlib.Core.Path.{_≡_, sym, ap, subst, _∙_}
 use mathlib.Core.List.{List, [], _∷_, _++_, append-assoc}
 use Prim.Native.Nat.{ℕ, _+_, _-_, _≤_, _<_}
 use native.Mathlib.Nat.{zero-add}
 use native.Mathlib.Omega.{arith}
-use borrow.Author.Tests.{lt-ltb, le-ltb, ltb-true, ltb-false}
+use borrow.Author.Tests.{lt-ltb, le-ltb}
 use lib.Dec.{ltb}
 use lib.ListN.{length, take, drop, length-append}
 use lib.Seq.{take-length}
 use Rattle.lists.specs.Put.{fronted}
+use Rattle.lists.proofs.Fronted.{into-short, into-fits}
 use Rattle.lines.specs.Over.{over}
 use Rattle.lines.proofs.Over.{over-front, over-part, Stage}
 use Rattle.replies.specs.Replies.{decimalOf, numbered, lineIn, writtenIn}
@@ -22,29 +22,17 @@ piece-over xs l ys at e = over-part xs l ys at (e ∙ ap (λ (t : List ℕ). t +
 
 -- where there is no room
 pub text-short : (text s : List ℕ) → length s < length text → (0 ≡ writtenIn text s) × (s ≡ lineIn text s)
-unfolding writtenIn lineIn
-text-short text s h = (simp (lt-ltb (length s) (length text) h), simp (lt-ltb (length s) (length text) h))
+unfolding writtenIn
+text-short text s h = (simp (lt-ltb (length s) (length text) h), sym (into-short text s h))
 
--- where there is: the length, and the bytes
+-- where there is
 written-length : (text s : List ℕ) → length text ≤ length s → writtenIn text s ≡ length text
 unfolding writtenIn
 written-length text s h = simp (le-ltb (length s) (length text) h)
 
-line-front : (text s : List ℕ) → length text ≤ length s → lineIn text s ≡ fronted text s
-unfolding lineIn
-line-front text s h = simp (le-ltb (length s) (length text) h)
-
 -- where there is, and the text is written
 pub text-fits : (text s cur : List ℕ) (n : ℕ) → length text ≤ length s → Stage 0 s text cur n → (n ≡ writtenIn text s) × (cur ≡ lineIn text s)
-text-fits text s cur n h e = (e .end ∙ zero-add (length text) ∙ sym (written-length text s h), e .written ∙ over-front text s ∙ sym (line-front text s h))
-
--- no more is written than is lent
-pub written-low : (text s : List ℕ) → writtenIn text s ≤ length s
-written-low text s = go (ltb (length s) (length text)) refl
-  where
-    go : (b : Bool) → ltb (length s) (length text) ≡ b → writtenIn text s ≤ length s
-    go true e = omega (arith, text-short text s (ltb-true _ _ e) .0)
-    go false e = let fits : length text ≤ length s = ltb-false _ _ e in omega (arith, written-length text s fits)
+text-fits text s cur n h e = (e .end ∙ zero-add (length text) ∙ sym (written-length text s h), e .written ∙ over-front text s ∙ sym (into-fits text s h))
 
 module _ (word : List ℕ) (n : ℕ) (digits colon reason : List ℕ) (count : ℕ) (told : digits ≡ decimalOf n) (counted : count ≡ length digits) (s : List ℕ) where
   -- the pieces of a line with a number

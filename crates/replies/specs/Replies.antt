@@ -4,7 +4,7 @@ use mathlib.Core.List.{List, [], _∷_, _++_}
 use Prim.Native.Nat.{ℕ, zero, suc, _+_, _/_, _%_}
 use lib.Dec.{ltb}
 use lib.ListN.{length}
-use Rattle.lists.specs.Put.{fronted}
+use Rattle.lists.specs.Put.{frontedInto}
 
 -- the digit alone where it is the first, else after the digits before it
 abbrev pub grown : Bool → List ℕ → ℕ → List ℕ
@@ -45,8 +45,8 @@ abbrev pub refusedLine : ℕ → List ℕ
 refusedLine n = numbered refusedWord n []
 
 -- lent bytes with a text at their front; those that are fewer than the text are as they were
-unfoldable pub lineIn : List ℕ → List ℕ → List ℕ
-lineIn text out = cond (ltb (length out) (length text)) out (fronted text out)
+abbrev pub lineIn : List ℕ → List ℕ → List ℕ
+lineIn text out = frontedInto text out
 
 -- how many bytes are then written
 unfoldable pub writtenIn : List ℕ → List ℕ → ℕ

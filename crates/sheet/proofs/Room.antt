@@ -1,33 +1,25 @@
--- Every sheet has room in 7,470 bytes: eight lists of at most 20 players, a kicker, a ball judgment, three lines of a place and the header. Assumes nothing.
+-- The text of a decision whose lists have at most 20 players has at most 7,470 bytes: eight lists, a kicker, a ball judgment, three lines of a place and the header. Assumes nothing.
 use mathlib.Core.Path.{_≡_}
 use mathlib.Core.Bool.{Bool, true, false}
 use mathlib.Core.List.{List}
 use Prim.Native.Nat.{ℕ, zero, suc, _+_, _≤_}
 use native.Mathlib.Omega.{arith}
-use borrow.Author.Tests.{eq-eqb, le-ltb}
 use lib.Dec.{ltb}
-use lib.Ieee.{Float}
 use lib.ListN.{length, getD, length-append, length-take}
 use Rattle.lists.specs.Gather.{flatTo, onlyIf}
 use Rattle.lists.proofs.Table.{length-table}
-use Rattle.game.specs.Players.{teamOf}
 use Rattle.game.specs.declared.PlayerList.{PlayerList}
 use Rattle.game.specs.declared.Side.{Side}
 use Rattle.game.specs.declared.Side.the-variants.{Home, Away}
-use Rattle.game.specs.declared.Situation.{Situation}
-use Rattle.ball.specs.declared.BallJudgment.{BallJudgment}
-use Rattle.autoreferee.specs.Codes.{sideCode, judgmentCode, judgmentSide}
-use Rattle.refusals.specs.Refusals.{refusalOf}
-use Rattle.decision.specs.Decision.{sideMargins, teamDecision, sideDecision, decisionOf}
-use Rattle.decision.specs.declared.call.Decision.{Decision}
-use Rattle.decision.specs.declared.call.SideDecision.{SideDecision}
-use Rattle.decision.specs.declared.judges.KickingPlayer.{KickingPlayer}
-use Rattle.decision.specs.declared.judges.KickingPlayer.the-variants.{NoKicker, Kicker}
-use Rattle.decision.specs.declared.judges.PlayerVerdict.{PlayerVerdict}
-use Rattle.decision.proofs.Few.{moved-few, leaving-few, excess-few}
-use Rattle.sheet.specs.Rows.{row, verdictCode, verdictRow, verdictRows, numbersOf, listRows, rank, none, kickerRows, ballRows, placeRows, rowsOf}
-use Rattle.sheet.specs.Sheet.{textOf, decisionAnswer, sheetAnswer}
-use Rattle.sheet.specs.declared.text.SheetAnswer.the-variants.{Written}
+use Rattle.game.specs.declared.BallJudgment.{BallJudgment}
+use Rattle.game.specs.Codes.{sideCode, judgmentCode, judgmentSide}
+use Rattle.game.specs.declared.Decision.{Decision}
+use Rattle.game.specs.declared.SideDecision.{SideDecision}
+use Rattle.game.specs.declared.KickingPlayer.{KickingPlayer}
+use Rattle.game.specs.declared.KickingPlayer.the-variants.{NoKicker, Kicker}
+use Rattle.game.specs.declared.PlayerVerdict.{PlayerVerdict}
+use Rattle.sheet.specs.Rows.{row, verdictCode, verdictRow, verdictRows, numbersOf, listRows, fromOne, none, kickerRows, ballRows, placeRows, rowsOf}
+use Rattle.sheet.specs.Sheet.{textOf}
 use Rattle.sheet.proofs.Answers.{text-long}
 use Rattle.sheet.proofs.Written.{place-few}
 
@@ -65,11 +57,15 @@ pub record Short (d : SideDecision) : Type 0 where
 -- how many lines there are, kind by kind
 rows-count : (d : Decision)
     → length (rowsOf d)
-    ≡ (length (verdictRows Home (d .home .verdicts)) + length (verdictRows Away (d .away .verdicts)))
-    + (length (listRows 2 Home rank (d .home .excess)) + length (listRows 2 Away rank (d .away .excess)))
+    ≡ length (verdictRows Home (d .home .verdicts))
+    + length (verdictRows Away (d .away .verdicts))
+    + length (listRows 2 Home fromOne (d .home .excess))
+    + length (listRows 2 Away fromOne (d .away .excess))
     + length (kickerRows (d .kicker))
-    + (length (listRows 4 Home none (d .home .leaving)) + length (listRows 4 Away none (d .away .leaving)))
-    + (length (listRows 5 Home none (d .home .moved)) + length (listRows 5 Away none (d .away .moved)))
+    + length (listRows 4 Home none (d .home .leaving))
+    + length (listRows 4 Away none (d .away .leaving))
+    + length (listRows 5 Home none (d .home .moved))
+    + length (listRows 5 Away none (d .away .moved))
     + length (ballRows (d .ball))
     + length (placeRows (d .place))
 unfolding rowsOf
@@ -82,8 +78,8 @@ rows-few d h a =
       rows-count d,
       verdicts-few Home (d .home .verdicts),
       verdicts-few Away (d .away .verdicts),
-      list-few 2 Home rank (d .home .excess) (h .excess),
-      list-few 2 Away rank (d .away .excess) (a .excess),
+      list-few 2 Home fromOne (d .home .excess) (h .excess),
+      list-few 2 Away fromOne (d .away .excess) (a .excess),
       kicker-few (d .kicker),
       list-few 4 Home none (d .home .leaving) (h .leaving),
       list-few 4 Away none (d .away .leaving) (a .leaving),
@@ -93,22 +89,5 @@ rows-few d h a =
       place-few (d .place),
     )
 
--- ---- of the decision on a situation
-side-short : (s : Situation) (side : Side) → Short (sideDecision s side)
-unfolding sideDecision teamDecision
-side-short s side =
-    record {
-      excess = excess-few (s .game) (teamOf s side) (sideMargins s side);
-      leaving = leaving-few (teamOf s side) (s .field);
-      moved = moved-few (teamOf s side);
-    }
-
-pub text-room : (s : Situation) (xs ys : List Float) → length (textOf (decisionOf s xs ys)) ≤ 7470
-unfolding decisionOf
-text-room s xs ys = omega (arith, text-long (decisionOf s xs ys), rows-few (decisionOf s xs ys) (side-short s Home) (side-short s Away))
-
--- 7,470 bytes are never too few: what is not refused for itself is written
-pub room-enough : (s : Situation) (xs ys : List Float) (lent : ℕ) → 7470 ≤ lent → refusalOf s xs ys ≡ 0 → sheetAnswer s xs ys lent ≡ Written (length (textOf (decisionOf s xs ys)))
-unfolding sheetAnswer decisionAnswer
-room-enough s xs ys lent h e =
-    simp (eq-eqb (refusalOf s xs ys) 0 e, le-ltb lent (length (textOf (decisionOf s xs ys))) (omega (arith, text-room s xs ys, h)))
+pub text-few : (d : Decision) → Short (d .home) → Short (d .away) → length (textOf d) ≤ 7470
+text-few d h a = omega (arith, text-long d, rows-few d h a)

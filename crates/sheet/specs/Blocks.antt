@@ -1,14 +1,18 @@
--- Lines of one kind and side in the making. Definitions only; no contract of an exported function needs them.
-use mathlib.Core.List.{List, _++_}
-use Prim.Native.Nat.{ℕ, _≤_}
+-- Lines of one kind and side in the making, and those of a place. Definitions only; no contract of an exported function needs them.
+use mathlib.Core.Bool.{cond}
+use mathlib.Core.List.{List, [], _∷_}
+use Prim.Native.Nat.{ℕ, _≤_, _<_}
 use mathlib.Core.Path.{_≡_}
+use lib.Dec.{ltb}
 use lib.ListN.{getD}
+use Rattle.lists.specs.Gather.{flatTo}
 use Rattle.lists.specs.Table.{table}
-use Rattle.places.specs.declared.Placement.{Placement}
+use Rattle.game.specs.declared.PlayerList.{PlayerList}
+use Rattle.game.specs.declared.Side.{Side}
 use Rattle.lines.specs.declared.Row.{Row}
-use Rattle.sheet.specs.Rows.{row, placeRows}
+use Rattle.sheet.specs.Rows.{row, listRows}
 use Rattle.sheet.specs.declared.blocks.Block.{Block}
-use Rattle.sheet.specs.declared.blocks.Blocks.{Blocks}
+use Rattle.sheet.specs.declared.blocks.Spot.{Spot}
 
 -- the line k of a block
 abbrev pub blockRow : Block → ℕ → Row
@@ -22,26 +26,29 @@ blockRows b = table (b .count) (blockRow b)
 abbrev pub Holds : Block → List Row → Type 0
 Holds b rows = (b .count ≤ 20) × (blockRows b ≡ rows)
 
--- no block has more lines than it has places for
-pub record Few (b : Blocks) : Type 0 where
-  pub home-verdicts : b .«home_verdicts» .count ≤ 20
-  pub away-verdicts : b .«away_verdicts» .count ≤ 20
-  pub home-excess : b .«home_excess» .count ≤ 20
-  pub away-excess : b .«away_excess» .count ≤ 20
-  pub kicks : b .kicker .count ≤ 20
-  pub home-leaving : b .«home_leaving» .count ≤ 20
-  pub away-leaving : b .«away_leaving» .count ≤ 20
-  pub home-moved : b .«home_moved» .count ≤ 20
-  pub away-moved : b .«away_moved» .count ≤ 20
-  pub judged : b .ball .count ≤ 20
+-- the block holds the lines of a list of players, by every rule for their values that the given values follow
+abbrev pub HoldsList : Block → ℕ → Side → List ℕ → PlayerList → Type 0
+HoldsList b kind side values l = (value : ℕ → ℕ) → ((k : ℕ) → k < 20 → getD values k 0 ≡ value k) → Holds b (listRows kind side value l)
 
--- the lines of all blocks, and of the place
-unfoldable pub allRows : Blocks → Placement → List Row
-allRows b p =
-    (blockRows (b .«home_verdicts») ++ blockRows (b .«away_verdicts»))
-    ++ (blockRows (b .«home_excess») ++ blockRows (b .«away_excess»))
-    ++ blockRows (b .kicker)
-    ++ (blockRows (b .«home_leaving») ++ blockRows (b .«away_leaving»))
-    ++ (blockRows (b .«home_moved») ++ blockRows (b .«away_moved»))
-    ++ blockRows (b .ball)
-    ++ placeRows p
+-- no block has more lines than it has places for
+abbrev pub Few : List Block → Type 0
+Few [] = Unit
+Few (b ∷ bs) = (b .count ≤ 20) × Few bs
+
+-- the block at a place, an empty one past the end
+abbrev pub blockAt : List Block → ℕ → Block
+blockAt bs i = getD bs i (record { kind = 0; side = 0; count = 0; numbers = []; values = [] })
+
+-- the lines of the first n blocks, one after the other
+abbrev pub rowsTo : List Block → ℕ → List Row
+rowsTo bs n = flatTo n (λ k. blockRows (blockAt bs k))
+
+-- of the ten
+unfoldable pub allRows : List Block → List Row
+allRows bs = rowsTo bs 10
+
+-- the lines of a place: three, or none
+unfoldable pub spotRows : Spot → List Row
+spotRows s =
+    cond (ltb (s .lines) 3) []
+    (row 7 (s .side) (s .number) (s .x) ∷ row 8 (s .side) (s .number) (s .y) ∷ row 9 (s .side) (s .number) (s .z) ∷ [])

@@ -10,15 +10,14 @@ use Rattle.lists.specs.Table.{table}
 use Rattle.game.specs.declared.PlayerList.{PlayerList}
 use Rattle.game.specs.declared.Side.{Side}
 use Rattle.game.specs.declared.Side.the-variants.{Home, Away}
-use Rattle.positioning.specs.Positioning.{positioningCode}
-use Rattle.positioning.specs.declared.Positioning.the-variants.{Legal}
-use Rattle.ball.specs.declared.BallJudgment.{BallJudgment}
-use Rattle.places.specs.declared.Placement.{Placement}
-use Rattle.autoreferee.specs.Codes.{sideCode, judgmentCode, judgmentSide, placementSide, placementNumber, placementValues}
-use Rattle.decision.specs.declared.call.Decision.{Decision}
-use Rattle.decision.specs.declared.judges.KickingPlayer.{KickingPlayer}
-use Rattle.decision.specs.declared.judges.KickingPlayer.the-variants.{NoKicker, Kicker}
-use Rattle.decision.specs.declared.judges.PlayerVerdict.{PlayerVerdict}
+use Rattle.game.specs.declared.Positioning.the-variants.{Legal}
+use Rattle.game.specs.declared.BallJudgment.{BallJudgment}
+use Rattle.game.specs.declared.Placement.{Placement}
+use Rattle.game.specs.Codes.{positioningCode, sideCode, judgmentCode, judgmentSide, placementSide, placementNumber, placementValues}
+use Rattle.game.specs.declared.Decision.{Decision}
+use Rattle.game.specs.declared.KickingPlayer.{KickingPlayer}
+use Rattle.game.specs.declared.KickingPlayer.the-variants.{NoKicker, Kicker}
+use Rattle.game.specs.declared.PlayerVerdict.{PlayerVerdict}
 use Rattle.lines.specs.declared.Row.{Row}
 
 -- a line's kind, side, number and value
@@ -48,8 +47,8 @@ unfoldable pub listRows : ℕ → Side → (ℕ → ℕ) → PlayerList → List
 listRows kind side value l = table (length (numbersOf l)) (λ k. row kind (sideCode side) (getD (numbersOf l) k 0) (value k))
 
 -- from 1
-abbrev pub rank : ℕ → ℕ
-rank k = k + 1
+abbrev pub fromOne : ℕ → ℕ
+fromOne k = k + 1
 
 -- no value
 abbrev pub none : ℕ → ℕ
@@ -76,11 +75,15 @@ placeRows p = valueRows 7 (placementSide p) (placementNumber p) (placementValues
 -- ---- all of them, Home before Away inside a kind
 unfoldable pub rowsOf : Decision → List Row
 rowsOf d =
-    (verdictRows Home (d .home .verdicts) ++ verdictRows Away (d .away .verdicts))
-    ++ (listRows 2 Home rank (d .home .excess) ++ listRows 2 Away rank (d .away .excess))
+    verdictRows Home (d .home .verdicts)
+    ++ verdictRows Away (d .away .verdicts)
+    ++ listRows 2 Home fromOne (d .home .excess)
+    ++ listRows 2 Away fromOne (d .away .excess)
     ++ kickerRows (d .kicker)
-    ++ (listRows 4 Home none (d .home .leaving) ++ listRows 4 Away none (d .away .leaving))
-    ++ (listRows 5 Home none (d .home .moved) ++ listRows 5 Away none (d .away .moved))
+    ++ listRows 4 Home none (d .home .leaving)
+    ++ listRows 4 Away none (d .away .leaving)
+    ++ listRows 5 Home none (d .home .moved)
+    ++ listRows 5 Away none (d .away .moved)
     ++ ballRows (d .ball)
     ++ placeRows (d .place)
 

@@ -1,15 +1,12 @@
--- The sheet of a situation: its text, what the call answers, and what the lent bytes are after it. Definitions only.
+-- The sheet of a decision: its text, what its writer answers, and what the lent bytes are after it. Definitions only.
 use mathlib.Core.Bool.{cond}
-use mathlib.Core.List.{List}
+use mathlib.Core.List.{List, [], _∷_}
 use Prim.Native.Nat.{ℕ}
-use lib.Dec.{eqb, ltb}
-use lib.Ieee.{Float}
+use lib.Dec.{eqb, leb}
 use lib.ListN.{length}
-use Rattle.lists.specs.Put.{fronted}
-use Rattle.game.specs.declared.Situation.{Situation}
-use Rattle.refusals.specs.Refusals.{refusalOf}
-use Rattle.decision.specs.Decision.{decisionOf}
-use Rattle.decision.specs.declared.call.Decision.{Decision}
+use Rattle.lists.specs.Put.{frontedInto}
+use Rattle.lists.specs.Refusals.{Condition, firstRefusal}
+use Rattle.game.specs.declared.Decision.{Decision}
 use Rattle.lines.specs.Line.{linesOf}
 use Rattle.sheet.specs.Rows.{sheetRows}
 use Rattle.sheet.specs.declared.text.SheetAnswer.{SheetAnswer}
@@ -20,22 +17,22 @@ abbrev pub bytesIn : SheetAnswer → ℕ
 bytesIn (Refused n) = 0
 bytesIn (Written n) = n
 
+-- the number of a refusal; where it is 0, for none, so many bytes are written
+abbrev pub answered : ℕ → ℕ → SheetAnswer
+answered refusal bytes = cond (eqb refusal 0) (Written bytes) (Refused refusal)
+
 -- the text of a decision
 unfoldable pub textOf : Decision → List ℕ
 textOf d = linesOf (sheetRows d)
 
--- 7 where the text is longer than the lent bytes, else its length
+-- 7: the lent bytes are too few for the text
+abbrev pub roomFor : Decision → ℕ → Condition
+roomFor d lent = record { holds = leb (length (textOf d)) lent; number = 7 }
+
+-- 7, or the length of the text
 unfoldable pub decisionAnswer : Decision → ℕ → SheetAnswer
-decisionAnswer d lent = cond (ltb lent (length (textOf d))) (Refused 7) (Written (length (textOf d)))
+decisionAnswer d lent = answered (firstRefusal (roomFor d lent ∷ [])) (length (textOf d))
 
 -- the text and after it the bytes that were there; where it is too long, all the bytes that were there
-unfoldable pub decisionSheet : Decision → List ℕ → List ℕ
-decisionSheet d sheet = cond (ltb (length sheet) (length (textOf d))) sheet (fronted (textOf d) sheet)
-
--- the first refusal of 1 to 5, then 7, else the number of bytes written
-unfoldable pub sheetAnswer : Situation → List Float → List Float → ℕ → SheetAnswer
-sheetAnswer s xs ys lent = cond (eqb (refusalOf s xs ys) 0) (decisionAnswer (decisionOf s xs ys) lent) (Refused (refusalOf s xs ys))
-
--- a refusal keeps every byte
-unfoldable pub sheetAfter : Situation → List Float → List Float → List ℕ → List ℕ
-sheetAfter s xs ys sheet = cond (eqb (refusalOf s xs ys) 0) (decisionSheet (decisionOf s xs ys) sheet) sheet
+abbrev pub decisionSheet : Decision → List ℕ → List ℕ
+decisionSheet d sheet = frontedInto (textOf d) sheet

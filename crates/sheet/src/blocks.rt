@@ -1,23 +1,22 @@
-// Lines of one kind and side, gathered before anything is written, so that their number is known.
+// Lines of one kind and side, and those of a place, gathered before anything is written, so that their number is known.
 ghost use mathlib.Core.Path.{_≡_};
 ghost use mathlib.Core.List.{_++_};
-ghost use Prim.Native.Nat.{_+_, _≤_, _<_, min};
-ghost use lib.Dec.{ltb};
-ghost use lib.ListN.{getD, length};
+ghost use Prim.Native.Nat.{_+_, _≤_, _<_};
+ghost use lib.ListN.{length};
 ghost use Rattle.lists.specs.Gather.{onlyIf};
-ghost use Rattle.lists.specs.Table.{table};
-ghost use Rattle.autoreferee.specs.Codes.{sideCode, judgmentCode, judgmentSide};
-ghost use Rattle.positioning.specs.Positioning.{positioningCode};
+ghost use Rattle.lists.specs.Put.{countIf};
+ghost use Rattle.game.specs.Codes.{positioningCode, sideCode, judgmentCode, judgmentSide};
 ghost use Rattle.sheet.specs.Rows as Spec;
-ghost use Rattle.sheet.specs.Blocks.{blockRow, blockRows, Holds, Few, allRows};
-use autoreferee::BallJudgment;
-use decision::Decision;
-use decision::KickingPlayer;
-use decision::PlayerVerdict;
+ghost use Rattle.sheet.specs.Blocks.{Holds, HoldsList, Few, allRows, spotRows};
+use game::BallJudgment;
+use game::Decision;
+use game::KickingPlayer;
+use game::MIN;
+use game::Placement;
 use game::PlayerList;
+use game::PlayerVerdict;
+use game::Positioning;
 use game::Side;
-use lines::Row;
-use positioning::Positioning;
 
 // The first `count` of the numbers and values, each a line of this kind and side.
 pub struct Block {
@@ -28,18 +27,14 @@ pub struct Block {
     pub values: [u8; 20],
 }
 
-// The blocks of a sheet, in the order of their lines.
-pub struct Blocks {
-    pub home_verdicts: Block,
-    pub away_verdicts: Block,
-    pub home_excess: Block,
-    pub away_excess: Block,
-    pub kicker: Block,
-    pub home_leaving: Block,
-    pub away_leaving: Block,
-    pub home_moved: Block,
-    pub away_moved: Block,
-    pub ball: Block,
+// The lines of a place, 3 or 0: the side and the number of each, and their values.
+pub struct Spot {
+    pub lines: usize,
+    pub side: u32,
+    pub number: u32,
+    pub x: u32,
+    pub y: u32,
+    pub z: u32,
 }
 
 // The ranks of a list of players, from 1.
@@ -66,7 +61,7 @@ const RANKS: [u8; 20] = [
     20,
 ];
 
-pub(crate) fn side_code(side: Side) -> u32
+fn side_code(side: Side) -> u32
     ensures { λ r. ⌜ r ≡ sideCode side ⌝ }
 {
     match side {
@@ -86,19 +81,12 @@ fn positioning_code(verdict: Positioning) -> u8
     }
 }
 
-// The line at a place of a block.
-pub(crate) fn block_row(b: Block, i: usize) -> Row
-    requires { ⌜ i < 20 ⌝ }
-    ensures { λ r. ⌜ r ≡ blockRow b i ⌝ }
+// One more, or not.
+fn count_if(wanted: bool, n: usize) -> usize
+    requires { ⌜ n < 20 ⌝ }
+    ensures { λ r. ⌜ (r ≡ countIf wanted n) × (r ≤ n + 1) ⌝ }
 {
-    let numbers = b.numbers;
-    let values = b.values;
-    Row {
-        kind: b.kind,
-        side: b.side,
-        number: numbers[i] as u32,
-        value: values[i] as u32,
-    }
+    if wanted { n + 1 } else { n }
 }
 
 // A block of at most one line.
@@ -115,83 +103,40 @@ fn block_if(wanted: bool, kind: u32, side: u32, number: u8) -> Block
     }
 }
 
-// A block to be filled.
-fn empty_block(kind: u32, side: u32) -> Block
-    ensures { λ r. ⌜ (r .kind ≡ kind) × (r .side ≡ side) × (r .count ≡ 0) ⌝ }
-{
-    Block {
-        kind,
-        side,
-        count: 0,
-        numbers: [0; 20],
-        values: [0; 20],
-    }
-}
-
-// The block with one more line at its end, or unchanged.
-fn push_if(b: Block, wanted: bool, number: u8, value: u8) -> Block
-    requires { ⌜ b .count < 20 ⌝ }
-    ensures { λ r. ⌜ (r .kind ≡ b .kind) × (r .side ≡ b .side) × (r .count ≤ b .count + 1) ⌝ }
-    ensures { λ r. ⌜ blockRows r ≡ blockRows b ++ onlyIf wanted (Spec.row (b .kind) (b .side) number value) ⌝ }
-{
-    if wanted {
-        let n = b.count;
-        let mut numbers = b.numbers;
-        let mut values = b.values;
-        numbers[n] = number;
-        values[n] = value;
-        return Block {
-            kind: b.kind,
-            side: b.side,
-            count: n + 1,
-            numbers,
-            values,
-        };
-    }
-    b
-}
-
-// The block with the line of the player at the place i, unless its verdict is Legal.
-fn push_verdict(b: Block, verdict: PlayerVerdict, i: usize) -> Block
-    requires { ⌜ (b .count < 20) × (i < 20) ⌝ }
-    ensures { λ r. ⌜ (r .kind ≡ b .kind) × (r .side ≡ b .side) × (r .count ≤ b .count + 1) ⌝ }
-    ensures { λ r. ⌜ blockRows r ≡ blockRows b ++ onlyIf (ltb 0 (positioningCode (verdict .verdict))) (Spec.row (b .kind) (b .side) (i + 1) (positioningCode (verdict .verdict))) ⌝ }
-{
-    let positioning = verdict.verdict;
-    let code = positioning_code(positioning);
-    let number = i as u8 + 1;
-    push_if(b, 0 < code, number, code)
-}
-
-// The lines of the players whose verdict is not Legal.
+// The lines of the players whose verdict is not Legal. A line that is not wanted is written over by the next one.
 fn verdict_block(side: Side, verdicts: [PlayerVerdict; 20]) -> Block
     ensures { λ r. ⌜ Holds r (Spec.verdictRows side verdicts) ⌝ }
 {
     let code = side_code(side);
-    let mut b = empty_block(1, code);
+    let mut numbers = [0u8; 20];
+    let mut values = [0u8; 20];
+    let mut n: usize = 0;
     let mut i: usize = 0;
     while i < 20 {
         let v = verdicts[i];
-        b = push_verdict(b, v, i);
+        let positioning = v.verdict;
+        let value = positioning_code(positioning);
+        numbers[n] = i as u8 + MIN;
+        values[n] = value;
+        n = count_if(0 < value, n);
         i += 1;
     }
-    b
-}
-
-// The number, but 20 at most.
-fn at_most_20(n: usize) -> usize
-    ensures { λ r. ⌜ r ≡ min n 20 ⌝ }
-{
-    if n < 20 { n } else { 20 }
+    Block {
+        kind: 1,
+        side: code,
+        count: n,
+        numbers,
+        values,
+    }
 }
 
 // The lines of the players of a list, with these values.
 fn list_block(kind: u32, side: Side, list: PlayerList, values: [u8; 20]) -> Block
-    ensures { λ r. ⌜ Holds r (Spec.listRows kind side (λ k. getD values k 0) list) ⌝ }
+    ensures { λ r. ⌜ HoldsList r kind side values list ⌝ }
 {
     let code = side_code(side);
-    let count = at_most_20(list.count);
     let numbers = list.numbers;
+    let count = if list.count < 20 { list.count } else { 20 };
     Block {
         kind,
         side: code,
@@ -240,52 +185,31 @@ fn judgment_side(judgment: BallJudgment) -> u32
     }
 }
 
-// The ball judgment's line, none where nothing is called.
-fn ball_block(judgment: BallJudgment) -> Block
-    ensures { λ r. ⌜ Holds r (Spec.ballRows judgment) ⌝ }
-{
-    let code = judgment_code(judgment);
-    let side = judgment_side(judgment);
-    block_if(0 < code, 6, side, code)
-}
-
-// The lines of a side's excess list, with their ranks.
-fn excess_block(side: Side, list: PlayerList) -> Block
-    ensures { λ r. ⌜ Holds r (Spec.listRows 2 side Spec.rank list) ⌝ }
-{
-    list_block(2, side, list, RANKS)
-}
-
-// The lines of a side's list of a kind that has no values.
-fn plain_block(kind: u32, side: Side, list: PlayerList) -> Block
-    ensures { λ r. ⌜ Holds r (Spec.listRows kind side Spec.none list) ⌝ }
-{
-    let values = [0u8; 20];
-    list_block(kind, side, list, values)
-}
-
 // All lines of a decision but those of its place.
-pub(crate) fn blocks_of(d: Decision) -> Blocks
+pub(crate) fn blocks_of(d: Decision) -> [Block; 10]
     ensures { λ r. ⌜ Few r ⌝ }
-    ensures { λ r. ⌜ allRows r (d .place) ≡ Spec.rowsOf d ⌝ }
+    ensures { λ r. ⌜ allRows r ++ Spec.placeRows (d .place) ≡ Spec.rowsOf d ⌝ }
 {
     let home = d.home;
     let away = d.away;
+    let none = [0u8; 20];
     let verdicts = home.verdicts;
     let home_verdicts = verdict_block(Side::Home, verdicts);
     let verdicts = away.verdicts;
     let away_verdicts = verdict_block(Side::Away, verdicts);
-    let home_excess = excess_block(Side::Home, home.excess);
-    let away_excess = excess_block(Side::Away, away.excess);
+    let home_excess = list_block(2, Side::Home, home.excess, RANKS);
+    let away_excess = list_block(2, Side::Away, away.excess, RANKS);
     let kicking_player = d.kicker;
     let kicker = kicker_block(kicking_player);
-    let home_leaving = plain_block(4, Side::Home, home.leaving);
-    let away_leaving = plain_block(4, Side::Away, away.leaving);
-    let home_moved = plain_block(5, Side::Home, home.moved);
-    let away_moved = plain_block(5, Side::Away, away.moved);
+    let home_leaving = list_block(4, Side::Home, home.leaving, none);
+    let away_leaving = list_block(4, Side::Away, away.leaving, none);
+    let home_moved = list_block(5, Side::Home, home.moved, none);
+    let away_moved = list_block(5, Side::Away, away.moved, none);
     let judgment = d.ball;
-    let ball = ball_block(judgment);
-    Blocks {
+    let code = judgment_code(judgment);
+    let judged = judgment_side(judgment);
+    let ball = block_if(0 < code, 6, judged, code);
+    [
         home_verdicts,
         away_verdicts,
         home_excess,
@@ -296,5 +220,54 @@ pub(crate) fn blocks_of(d: Decision) -> Blocks
         home_moved,
         away_moved,
         ball,
+    ]
+}
+
+// The lines of a place.
+pub(crate) fn spot_of(place: Placement) -> Spot
+    ensures { λ r. ⌜ (r .lines ≡ length (Spec.placeRows place)) × (spotRows r ≡ Spec.placeRows place) ⌝ }
+{
+    match place {
+        Placement::NoPlace => Spot {
+            lines: 0,
+            side: 2,
+            number: 0,
+            x: 0,
+            y: 0,
+            z: 0,
+        },
+        Placement::BallAt(x, y, z) => {
+            let x = floats::bits(x);
+            let y = floats::bits(y);
+            let z = floats::bits(z);
+            Spot {
+                lines: 3,
+                side: 2,
+                number: 0,
+                x,
+                y,
+                z,
+            }
+        }
+        Placement::PlayerAt {
+            side,
+            number,
+            x,
+            y,
+            theta,
+        } => {
+            let side = side_code(side);
+            let x = floats::bits(x);
+            let y = floats::bits(y);
+            let z = floats::bits(theta);
+            Spot {
+                lines: 3,
+                side,
+                number: number as u32,
+                x,
+                y,
+                z,
+            }
+        }
     }
 }

@@ -1,6 +1,6 @@
-// The sheet: the decision on a situation as lines of text.
+// The sheet: a decision as lines of text.
 mod blocks;
 mod text;
 
 pub use text::SheetAnswer;
-pub use text::write_sheet;
+pub use text::write_decision;

@@ -1,4 +1,4 @@
--- The situation that 563 words of 32 bits are. Definitions only.
+-- The situation that words of 32 bits are, by the layout of the crate `columns`. Definitions only.
 use mathlib.Core.Bool.{Bool, cond}
 use mathlib.Core.List.{List, [], _∷_}
 use Prim.Native.Nat.{ℕ, _+_, _*_}
@@ -6,6 +6,7 @@ use lib.Dec.{ltb, eqb}
 use lib.ListN.{getD}
 use lib.Ieee.{Float, binary32, ofBits}
 use Rattle.lists.specs.Table.{table}
+use Rattle.columns.specs.Layout as At
 use Rattle.game.specs.declared.Side.{Side}
 use Rattle.game.specs.declared.Side.the-variants.{Home, Away}
 use Rattle.game.specs.declared.SideMapping.{SideMapping}
@@ -121,36 +122,36 @@ floatAt ws i = ofBits binary32 (wordAt ws i)
 unfoldable pub flagAt : List ℕ → ℕ → Bool
 flagAt ws i = eqb (wordAt ws i) 1
 
--- 0 to 13
+-- the sizes of the field
 unfoldable pub fieldOf : List ℕ → FieldDimensions
 fieldOf ws =
     record {
-      length = floatAt ws 0;
-      width = floatAt ws 1;
-      «goal_width» = floatAt ws 2;
-      «goal_height» = floatAt ws 3;
-      «goal_area_length» = floatAt ws 4;
-      «goal_area_width» = floatAt ws 5;
-      «penalty_area_length» = floatAt ws 6;
-      «penalty_area_width» = floatAt ws 7;
-      «penalty_mark_distance» = floatAt ws 8;
-      «center_circle_radius» = floatAt ws 9;
-      «border_strip_width» = floatAt ws 10;
-      «mark_radius» = floatAt ws 11;
-      «line_width» = floatAt ws 12;
-      «ball_radius» = floatAt ws 13;
+      length = floatAt ws At.length;
+      width = floatAt ws At.width;
+      «goal_width» = floatAt ws At.goalWidth;
+      «goal_height» = floatAt ws At.goalHeight;
+      «goal_area_length» = floatAt ws At.goalAreaLength;
+      «goal_area_width» = floatAt ws At.goalAreaWidth;
+      «penalty_area_length» = floatAt ws At.penaltyAreaLength;
+      «penalty_area_width» = floatAt ws At.penaltyAreaWidth;
+      «penalty_mark_distance» = floatAt ws At.penaltyMarkDistance;
+      «center_circle_radius» = floatAt ws At.centerCircleRadius;
+      «border_strip_width» = floatAt ws At.borderStripWidth;
+      «mark_radius» = floatAt ws At.markRadius;
+      «line_width» = floatAt ws At.lineWidth;
+      «ball_radius» = floatAt ws At.ballRadius;
     }
 
--- 15 to 20
+-- the game without its teams
 unfoldable pub gameOf : List ℕ → Game
 gameOf ws =
     record {
-      sides = sidesOf (wordAt ws 15);
-      stopped = flagAt ws 16;
-      phase = phaseOf (wordAt ws 17);
-      state = stateOf (wordAt ws 18);
-      «set_play» = setPlayOf (wordAt ws 19);
-      «kicking_side» = maybeSideOf (wordAt ws 20);
+      sides = sidesOf (wordAt ws At.sides);
+      stopped = flagAt ws At.stopped;
+      phase = phaseOf (wordAt ws At.phase);
+      state = stateOf (wordAt ws At.state);
+      «set_play» = setPlayOf (wordAt ws At.setPlay);
+      «kicking_side» = maybeSideOf (wordAt ws At.kickingSide);
     }
 
 -- the four words of a pose
@@ -168,44 +169,40 @@ referencePoseAt ws i = cond (flagAt ws i) (Reference (poseAt ws (i + 1))) NoRefe
 unfoldable pub playerOf : List ℕ → ℕ → Player
 playerOf ws k =
     record {
-      pose = seenPoseAt ws (63 + 5 * k);
-      reference = referencePoseAt ws (263 + 5 * k);
-      penalty = penaltyOf (wordAt ws (23 + k));
-      allowance = floatAt ws (463 + k);
-      «previously_inside» = flagAt ws (503 + k);
+      pose = seenPoseAt ws (At.poses + At.poseWords * k);
+      reference = referencePoseAt ws (At.references + At.poseWords * k);
+      penalty = penaltyOf (wordAt ws (At.penalties + k));
+      allowance = floatAt ws (At.allowances + k);
+      «previously_inside» = flagAt ws (At.previouslyInside + k);
     }
 
--- the 20 players from one of the 40 on
-unfoldable pub playersOf : List ℕ → ℕ → List Player
-playersOf ws first = table 20 (λ k. playerOf ws (first + k))
+-- the players and the goalkeeper of Home (0) or Away (1), whose players are the 20 from 20 on
+unfoldable pub teamIn : List ℕ → ℕ → Team
+teamIn ws side = record { players = table 20 (λ k. playerOf ws (20 * side + k)); goalkeeper = maybeNumberOf (wordAt ws (At.goalkeepers + side)) }
 
--- those players, and the goalkeeper at a place
-unfoldable pub teamOf : List ℕ → ℕ → ℕ → Team
-teamOf ws first keeper = record { players = playersOf ws first; goalkeeper = maybeNumberOf (wordAt ws keeper) }
-
--- 543 to 545
+-- the ball
 unfoldable pub ballOf : List ℕ → Ball
-ballOf ws = record { x = floatAt ws 543; y = floatAt ws 544; z = floatAt ws 545 }
+ballOf ws = record { x = floatAt ws At.ball; y = floatAt ws (At.ball + 1); z = floatAt ws (At.ball + 2) }
 
--- 548 to 557
+-- the Restart record
 unfoldable pub restartOf : List ℕ → Restart
 restartOf ws =
     record {
-      kind = restartKindOf (wordAt ws 548);
-      «set_play» = setPlayOf (wordAt ws 549);
-      side = sideOf (wordAt ws 550);
-      kicker = maybeNumberOf (wordAt ws 551);
-      «kick_x» = floatAt ws 552;
-      «kick_y» = floatAt ws 553;
-      «other_touch» = flagAt ws 554;
-      «kicker_touched_outside_center_circle» = flagAt ws 555;
-      «kicker_touched_far_from_kick» = flagAt ws 556;
-      «ball_moved_since_kick» = flagAt ws 557;
+      kind = restartKindOf (wordAt ws At.restartKind);
+      «set_play» = setPlayOf (wordAt ws At.restartSetPlay);
+      side = sideOf (wordAt ws At.restartSide);
+      kicker = maybeNumberOf (wordAt ws At.restartKicker);
+      «kick_x» = floatAt ws At.kickPosition;
+      «kick_y» = floatAt ws (At.kickPosition + 1);
+      «other_touch» = flagAt ws At.otherTouch;
+      «kicker_touched_outside_center_circle» = flagAt ws At.kickerTouchedOutsideCenterCircle;
+      «kicker_touched_far_from_kick» = flagAt ws At.kickerTouchedFarFromKick;
+      «ball_moved_since_kick» = flagAt ws At.ballMovedSinceKick;
     }
 
--- 547 says whether it is there
+-- the record, where it is there
 unfoldable pub maybeRestartOf : List ℕ → MaybeRestart
-maybeRestartOf ws = cond (flagAt ws 547) (InEffect (restartOf ws)) NoRestart
+maybeRestartOf ws = cond (flagAt ws At.restart) (InEffect (restartOf ws)) NoRestart
 
 -- the wishes in their order, each with the side and the number that it names
 abbrev pub wishes : Side → ℕ → List Wish
@@ -214,23 +211,23 @@ wishes side number = Nothing ∷ BallAtRestart ∷ BallInSet ∷ ForPenalty side
 unfoldable pub wishFrom : ℕ → Side → ℕ → Wish
 wishFrom w side number = getD (wishes side number) w Nothing
 
--- 560 to 562
+-- the wish
 unfoldable pub wishOf : List ℕ → Wish
-wishOf ws = wishFrom (wordAt ws 560) (sideOf (wordAt ws 561)) (numberOf (wordAt ws 562))
+wishOf ws = wishFrom (wordAt ws At.wish) (sideOf (wordAt ws At.wishedSide)) (numberOf (wordAt ws At.wishedPlayer))
 
 -- the situation that the words are
 unfoldable pub situationOf : List ℕ → Situation
 situationOf ws =
     record {
       field = fieldOf ws;
-      «penalty_placement_distance» = floatAt ws 14;
+      «penalty_placement_distance» = floatAt ws At.penaltyPlacementDistance;
       game = gameOf ws;
-      home = teamOf ws 0 21;
-      away = teamOf ws 20 22;
+      home = teamIn ws 0;
+      away = teamIn ws 1;
       ball = ballOf ws;
-      «last_contact» = maybeSideOf (wordAt ws 546);
+      «last_contact» = maybeSideOf (wordAt ws At.lastContact);
       restart = maybeRestartOf ws;
-      «invalid_goals_judged» = flagAt ws 558;
-      «ball_rested» = flagAt ws 559;
+      «invalid_goals_judged» = flagAt ws At.invalidGoalsJudged;
+      «ball_rested» = flagAt ws At.ballRested;
       wish = wishOf ws;
     }

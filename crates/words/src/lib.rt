@@ -1,7 +1,9 @@
-// The situation that 563 words of 32 bits are. A word past the end counts as 0, and one that is none of its column's values gives the first of them, or none.
+// The situation that words of 32 bits are, by the layout of the crate `columns`. A word past the end counts as 0, and one that is none of its column's values gives the first of them, or none.
 ghost use mathlib.Core.Path.{_≡_};
 ghost use Prim.Native.Nat.{_<_, _≤_};
+ghost use Rattle.columns.specs.Layout.{wordCount};
 ghost use Rattle.words.specs.Words as Spec;
+use columns::layout;
 use game::Ball;
 use game::FieldDimensions;
 use game::Game;
@@ -192,32 +194,32 @@ fn field_of(words: &[u32]) -> FieldDimensions
     ensures { λ r. ⌜ r ≡ Spec.fieldOf (now (words .entry)) ⌝ }
 {
     FieldDimensions {
-        length: float_at(words, 0),
-        width: float_at(words, 1),
-        goal_width: float_at(words, 2),
-        goal_height: float_at(words, 3),
-        goal_area_length: float_at(words, 4),
-        goal_area_width: float_at(words, 5),
-        penalty_area_length: float_at(words, 6),
-        penalty_area_width: float_at(words, 7),
-        penalty_mark_distance: float_at(words, 8),
-        center_circle_radius: float_at(words, 9),
-        border_strip_width: float_at(words, 10),
-        mark_radius: float_at(words, 11),
-        line_width: float_at(words, 12),
-        ball_radius: float_at(words, 13),
+        length: float_at(words, layout::LENGTH),
+        width: float_at(words, layout::WIDTH),
+        goal_width: float_at(words, layout::GOAL_WIDTH),
+        goal_height: float_at(words, layout::GOAL_HEIGHT),
+        goal_area_length: float_at(words, layout::GOAL_AREA_LENGTH),
+        goal_area_width: float_at(words, layout::GOAL_AREA_WIDTH),
+        penalty_area_length: float_at(words, layout::PENALTY_AREA_LENGTH),
+        penalty_area_width: float_at(words, layout::PENALTY_AREA_WIDTH),
+        penalty_mark_distance: float_at(words, layout::PENALTY_MARK_DISTANCE),
+        center_circle_radius: float_at(words, layout::CENTER_CIRCLE_RADIUS),
+        border_strip_width: float_at(words, layout::BORDER_STRIP_WIDTH),
+        mark_radius: float_at(words, layout::MARK_RADIUS),
+        line_width: float_at(words, layout::LINE_WIDTH),
+        ball_radius: float_at(words, layout::BALL_RADIUS),
     }
 }
 
 fn game_of(words: &[u32]) -> Game
     ensures { λ r. ⌜ r ≡ Spec.gameOf (now (words .entry)) ⌝ }
 {
-    let sides = sides_of(word_at(words, 15));
-    let stopped = flag_at(words, 16);
-    let phase = phase_of(word_at(words, 17));
-    let state = state_of(word_at(words, 18));
-    let set_play = set_play_of(word_at(words, 19));
-    let kicking_side = maybe_side_of(word_at(words, 20));
+    let sides = sides_of(word_at(words, layout::SIDES));
+    let stopped = flag_at(words, layout::STOPPED);
+    let phase = phase_of(word_at(words, layout::PHASE));
+    let state = state_of(word_at(words, layout::STATE));
+    let set_play = set_play_of(word_at(words, layout::SET_PLAY));
+    let kicking_side = maybe_side_of(word_at(words, layout::KICKING_SIDE));
     Game {
         sides,
         stopped,
@@ -230,7 +232,7 @@ fn game_of(words: &[u32]) -> Game
 
 // The four words of a pose.
 fn pose_at(words: &[u32], i: usize) -> PlayerPose
-    requires { ⌜ i ≤ 563 ⌝ }
+    requires { ⌜ i ≤ wordCount ⌝ }
     ensures { λ r. ⌜ r ≡ Spec.poseAt (now (words .entry)) i ⌝ }
 {
     PlayerPose {
@@ -243,7 +245,7 @@ fn pose_at(words: &[u32], i: usize) -> PlayerPose
 
 // A pose with the word before it, which says whether it is there.
 fn seen_pose_at(words: &[u32], i: usize) -> SeenPose
-    requires { ⌜ i < 563 ⌝ }
+    requires { ⌜ i < wordCount ⌝ }
     ensures { λ r. ⌜ r ≡ Spec.seenPoseAt (now (words .entry)) i ⌝ }
 {
     if flag_at(words, i) {
@@ -254,7 +256,7 @@ fn seen_pose_at(words: &[u32], i: usize) -> SeenPose
 }
 
 fn reference_pose_at(words: &[u32], i: usize) -> ReferencePose
-    requires { ⌜ i < 563 ⌝ }
+    requires { ⌜ i < wordCount ⌝ }
     ensures { λ r. ⌜ r ≡ Spec.referencePoseAt (now (words .entry)) i ⌝ }
 {
     if flag_at(words, i) {
@@ -269,11 +271,11 @@ fn player_of(words: &[u32], k: usize) -> Player
     requires { ⌜ k < 40 ⌝ }
     ensures { λ r. ⌜ r ≡ Spec.playerOf (now (words .entry)) k ⌝ }
 {
-    let pose = seen_pose_at(words, 63 + 5 * k);
-    let reference = reference_pose_at(words, 263 + 5 * k);
-    let penalty = penalty_of(word_at(words, 23 + k));
-    let allowance = float_at(words, 463 + k);
-    let previously_inside = flag_at(words, 503 + k);
+    let pose = seen_pose_at(words, layout::POSES + layout::POSE_WORDS * k);
+    let reference = reference_pose_at(words, layout::REFERENCES + layout::POSE_WORDS * k);
+    let penalty = penalty_of(word_at(words, layout::PENALTIES + k));
+    let allowance = float_at(words, layout::ALLOWANCES + k);
+    let previously_inside = flag_at(words, layout::PREVIOUSLY_INSIDE + k);
     Player {
         pose,
         reference,
@@ -283,78 +285,59 @@ fn player_of(words: &[u32], k: usize) -> Player
     }
 }
 
-// The 20 players from one of the 40 on.
-fn players_of(words: &[u32], first: usize) -> [Player; 20]
-    requires { ⌜ first ≤ 20 ⌝ }
-    ensures { λ r. ⌜ r ≡ Spec.playersOf (now (words .entry)) first ⌝ }
+// The players and the goalkeeper of Home (0) or Away (1).
+fn team_in(words: &[u32], side: usize) -> Team
+    requires { ⌜ side ≤ 1 ⌝ }
+    ensures { λ r. ⌜ r ≡ Spec.teamIn (now (words .entry)) side ⌝ }
 {
-    let blank = player_of(words, first);
+    let blank = player_of(words, 20 * side);
     let mut players = [blank; 20];
     let mut i: usize = 0;
     while i < 20 {
-        players[i] = player_of(words, first + i);
+        players[i] = player_of(words, 20 * side + i);
         i += 1;
     }
-    players
-}
-
-fn team_of(words: &[u32], first: usize, keeper: usize) -> Team
-    requires { ⌜ first ≤ 20 ⌝ }
-    ensures { λ r. ⌜ r ≡ Spec.teamOf (now (words .entry)) first keeper ⌝ }
-{
-    let players = players_of(words, first);
-    let goalkeeper = maybe_number_of(word_at(words, keeper));
+    let goalkeeper = maybe_number_of(word_at(words, layout::GOALKEEPERS + side));
     Team {
         players,
         goalkeeper,
     }
 }
 
-fn ball_of(words: &[u32]) -> Ball
-    ensures { λ r. ⌜ r ≡ Spec.ballOf (now (words .entry)) ⌝ }
-{
-    Ball {
-        x: float_at(words, 543),
-        y: float_at(words, 544),
-        z: float_at(words, 545),
-    }
-}
-
-fn restart_of(words: &[u32]) -> Restart
-    ensures { λ r. ⌜ r ≡ Spec.restartOf (now (words .entry)) ⌝ }
-{
-    let kind = restart_kind_of(word_at(words, 548));
-    let set_play = set_play_of(word_at(words, 549));
-    let side = side_of(word_at(words, 550));
-    let kicker = maybe_number_of(word_at(words, 551));
-    Restart {
-        kind,
-        set_play,
-        side,
-        kicker,
-        kick_x: float_at(words, 552),
-        kick_y: float_at(words, 553),
-        other_touch: flag_at(words, 554),
-        kicker_touched_outside_center_circle: flag_at(words, 555),
-        kicker_touched_far_from_kick: flag_at(words, 556),
-        ball_moved_since_kick: flag_at(words, 557),
-    }
-}
-
 fn maybe_restart_of(words: &[u32]) -> MaybeRestart
     ensures { λ r. ⌜ r ≡ Spec.maybeRestartOf (now (words .entry)) ⌝ }
 {
-    if flag_at(words, 547) {
-        let restart = restart_of(words);
+    if flag_at(words, layout::RESTART) {
+        let kind = restart_kind_of(word_at(words, layout::RESTART_KIND));
+        let set_play = set_play_of(word_at(words, layout::RESTART_SET_PLAY));
+        let side = side_of(word_at(words, layout::RESTART_SIDE));
+        let kicker = maybe_number_of(word_at(words, layout::RESTART_KICKER));
+        let restart = Restart {
+            kind,
+            set_play,
+            side,
+            kicker,
+            kick_x: float_at(words, layout::KICK_POSITION),
+            kick_y: float_at(words, layout::KICK_POSITION + 1),
+            other_touch: flag_at(words, layout::OTHER_TOUCH),
+            kicker_touched_outside_center_circle: flag_at(
+                words,
+                layout::KICKER_TOUCHED_OUTSIDE_CENTER_CIRCLE,
+            ),
+            kicker_touched_far_from_kick: flag_at(words, layout::KICKER_TOUCHED_FAR_FROM_KICK),
+            ball_moved_since_kick: flag_at(words, layout::BALL_MOVED_SINCE_KICK),
+        };
         return MaybeRestart::InEffect(restart);
     }
     MaybeRestart::NoRestart
 }
 
-// The wish of a kind, with the side and the number that it may name.
-fn wish_from(kind: u32, side: Side, number: u8) -> Wish
-    ensures { λ r. ⌜ r ≡ Spec.wishFrom kind side number ⌝ }
+// The wish, with the side and the number that it may name.
+fn wish_of(words: &[u32]) -> Wish
+    ensures { λ r. ⌜ r ≡ Spec.wishOf (now (words .entry)) ⌝ }
 {
+    let side = side_of(word_at(words, layout::WISHED_SIDE));
+    let number = number_of(word_at(words, layout::WISHED_PLAYER));
     let all = [
         Wish::Nothing,
         Wish::BallAtRestart,
@@ -363,19 +346,11 @@ fn wish_from(kind: u32, side: Side, number: u8) -> Wish
         Wish::ForPenaltyShot(side, number),
         Wish::Goalkeeper(side),
     ];
-    let i = kind as usize;
+    let i = word_at(words, layout::WISH) as usize;
     if i < 6 {
         return all[i];
     }
     Wish::Nothing
-}
-
-fn wish_of(words: &[u32]) -> Wish
-    ensures { λ r. ⌜ r ≡ Spec.wishOf (now (words .entry)) ⌝ }
-{
-    let side = side_of(word_at(words, 561));
-    let number = number_of(word_at(words, 562));
-    wish_from(word_at(words, 560), side, number)
 }
 
 // The situation that the words are.
@@ -384,23 +359,27 @@ pub fn situation_of(words: &[u32]) -> Situation
 {
     let field = field_of(words);
     let game = game_of(words);
-    let home = team_of(words, 0, 21);
-    let away = team_of(words, 20, 22);
-    let ball = ball_of(words);
-    let last_contact = maybe_side_of(word_at(words, 546));
+    let home = team_in(words, 0);
+    let away = team_in(words, 1);
+    let ball = Ball {
+        x: float_at(words, layout::BALL),
+        y: float_at(words, layout::BALL + 1),
+        z: float_at(words, layout::BALL + 2),
+    };
+    let last_contact = maybe_side_of(word_at(words, layout::LAST_CONTACT));
     let restart = maybe_restart_of(words);
     let wish = wish_of(words);
     Situation {
         field,
-        penalty_placement_distance: float_at(words, 14),
+        penalty_placement_distance: float_at(words, layout::PENALTY_PLACEMENT_DISTANCE),
         game,
         home,
         away,
         ball,
         last_contact,
         restart,
-        invalid_goals_judged: flag_at(words, 558),
-        ball_rested: flag_at(words, 559),
+        invalid_goals_judged: flag_at(words, layout::INVALID_GOALS_JUDGED),
+        ball_rested: flag_at(words, layout::BALL_RESTED),
         wish,
     }
 }

@@ -4,7 +4,7 @@ use crate::decision::Decision;
 use crate::generate::{self, Class, CLASSES};
 use crate::random::Random;
 use crate::situation::{values, Situation, WORDS};
-use crate::{cases, entries, exact_build, library, mixed_build, refusals, slip_build, slips, std_build, turn};
+use crate::{cases, entries, exact_build, layout, library, mixed_build, refusals, slip_build, slips, std_build, turn};
 use std::collections::{BTreeMap, BTreeSet};
 
 /// What the oracle answers: a refusal, or a decision.
@@ -282,7 +282,7 @@ pub fn check(random: &mut Random, s: &Situation, class: &str, tally: &mut Tally)
         Answer::Decided(decision) => decision,
     };
     describe(&decision, tally);
-    let wish = words[560] as u8;
+    let wish = words[layout::WISH] as u8;
     let kicking = s.kicking_side.unwrap_or(2);
     tally.combinations.insert([s.state, s.phase, s.set_play, kicking, wish, s.stopped.into()]);
     if let (Some(r), Some((code, side))) = (s.restart, decision.ball) {
@@ -363,9 +363,12 @@ pub fn bisect(random: &mut Random, tally: &mut Tally) {
     let words = s.to_words(None);
     let coordinates: Vec<usize> = (0..WORDS)
         .filter(|&i| match i {
-            0..=14 | 543..=545 => true,
-            63..=462 => (i - 63) % 5 != 0 && words[63 + (i - 63) / 5 * 5] == 1,
-            463..=502 => words[63 + (i - 463) * 5] == 1,
+            ..layout::SIDES | layout::BALL..layout::LAST_CONTACT => true,
+            layout::POSES..layout::ALLOWANCES => {
+                let at = (i - layout::POSES) % layout::POSE_WORDS;
+                at != 0 && words[i - at] == 1
+            }
+            layout::ALLOWANCES..layout::PREVIOUSLY_INSIDE => words[layout::POSES + (i - layout::ALLOWANCES) * layout::POSE_WORDS] == 1,
             _ => false,
         })
         .chain(WORDS..WORDS + s.xs.len() + s.ys.len())

@@ -6,6 +6,7 @@ mod compare;
 mod decision;
 mod entries;
 mod generate;
+mod layout;
 mod leaves;
 mod library;
 mod memory;

@@ -1,25 +1,13 @@
 //! A situation in plain Rust, and its words. The numbers of enums are those of the words.
 
+use crate::layout;
+pub use crate::layout::{
+    BALL_RADIUS, BORDER_STRIP_WIDTH, CENTER_CIRCLE_RADIUS, GOAL_AREA_LENGTH, GOAL_AREA_WIDTH, GOAL_HEIGHT, GOAL_WIDTH, LENGTH, LINE_WIDTH, MARK_RADIUS,
+    PENALTY_AREA_LENGTH, PENALTY_AREA_WIDTH, PENALTY_MARK_DISTANCE, WIDTH, WORDS,
+};
 use crate::random::Random;
 
-pub const WORDS: usize = 563;
 pub const PLAYERS: usize = 20;
-
-/// The places of the sizes, in the order of FieldDimensions.
-pub const LENGTH: usize = 0;
-pub const WIDTH: usize = 1;
-pub const GOAL_WIDTH: usize = 2;
-pub const GOAL_HEIGHT: usize = 3;
-pub const GOAL_AREA_LENGTH: usize = 4;
-pub const GOAL_AREA_WIDTH: usize = 5;
-pub const PENALTY_AREA_LENGTH: usize = 6;
-pub const PENALTY_AREA_WIDTH: usize = 7;
-pub const PENALTY_MARK_DISTANCE: usize = 8;
-pub const CENTER_CIRCLE_RADIUS: usize = 9;
-pub const BORDER_STRIP_WIDTH: usize = 10;
-pub const MARK_RADIUS: usize = 11;
-pub const LINE_WIDTH: usize = 12;
-pub const BALL_RADIUS: usize = 13;
 
 #[derive(Clone, Copy, Debug, PartialEq)]
 pub struct Pose {
@@ -83,14 +71,14 @@ pub struct Situation {
     pub ys: Vec<f32>,
 }
 
-pub const SHOOTOUT: u8 = 4;
-pub const SET: u8 = 2;
-pub const PLAYING: u8 = 3;
-pub const NO_SET_PLAY: u8 = 0;
-pub const KICK_OFF: u8 = 1;
-pub const INDIRECT_FREE_KICK: u8 = 3;
-pub const PENALTY_KICK: u8 = 4;
-pub const GOAL_KICK: u8 = 6;
+pub const SHOOTOUT: u8 = layout::PHASE_PENALTY_SHOOTOUT;
+pub const SET: u8 = layout::STATE_SET;
+pub const PLAYING: u8 = layout::STATE_PLAYING;
+pub const NO_SET_PLAY: u8 = layout::SET_PLAY_NO_SET_PLAY;
+pub const KICK_OFF: u8 = layout::SET_PLAY_KICK_OFF;
+pub const INDIRECT_FREE_KICK: u8 = layout::SET_PLAY_INDIRECT_FREE_KICK;
+pub const PENALTY_KICK: u8 = layout::SET_PLAY_PENALTY_KICK;
+pub const GOAL_KICK: u8 = layout::SET_PLAY_GOAL_KICK;
 
 impl Situation {
     /// Document 01's case A.
@@ -138,8 +126,8 @@ impl Situation {
         for word in [self.sides, u8::from(self.stopped), self.phase, self.state, self.set_play] {
             put(word.into());
         }
-        put(self.kicking_side.map_or(2, u32::from));
-        self.goalkeepers.iter().for_each(|g| put(g.map_or(256, u32::from)));
+        put(self.kicking_side.map_or(layout::NO_SIDE, u32::from));
+        self.goalkeepers.iter().for_each(|g| put(g.map_or(layout::NO_NUMBER, u32::from)));
         self.players.iter().flatten().for_each(|p| put(p.penalty.into()));
         let mut put_pose = |pose: Option<Pose>| match pose {
             Some(p) => [1, p.x.to_bits(), p.y.to_bits(), p.theta.to_bits(), p.radius.to_bits()].into_iter().for_each(&mut put),
@@ -153,21 +141,21 @@ impl Situation {
         self.players.iter().flatten().for_each(|p| put(p.allowance.to_bits()));
         self.players.iter().flatten().for_each(|p| put(p.inside.into()));
         self.ball.iter().for_each(|x| put(x.to_bits()));
-        put(self.last_contact.map_or(2, u32::from));
+        put(self.last_contact.map_or(layout::NO_SIDE, u32::from));
         match self.restart {
             Some(r) => {
                 put(1);
                 put(r.kind.into());
                 put(r.set_play.into());
                 put(r.side.into());
-                put(r.kicker.map_or(256, u32::from));
+                put(r.kicker.map_or(layout::NO_NUMBER, u32::from));
                 r.kick_position.iter().for_each(|x| put(x.to_bits()));
                 r.flags.iter().for_each(|&f| put(f.into()));
             }
             None => {
                 put(0);
-                for values in [4, 8, 2, 257, float, float, 2, 2, 2, 2] {
-                    put(any(values));
+                for i in layout::RESTART_KIND..layout::INVALID_GOALS_JUDGED {
+                    put(any(values(i)));
                 }
             }
         }
@@ -182,8 +170,8 @@ impl Situation {
             Wish::Goalkeeper(side) => (5, Some(side), None),
         };
         put(kind);
-        put(side.map_or_else(|| any(2), u32::from));
-        put(number.map_or_else(|| any(256), u32::from));
+        put(side.map_or_else(|| any(values(layout::WISHED_SIDE)), u32::from));
+        put(number.map_or_else(|| any(values(layout::WISHED_PLAYER)), u32::from));
         assert_eq!(at, WORDS);
         words
     }
@@ -196,52 +184,52 @@ impl Situation {
         let float = |i: usize| f32::from_bits(words[i]);
         let byte = |i: usize| words[i] as u8;
         let flag = |i: usize| words[i] == 1;
-        let side = |i: usize| (words[i] < 2).then_some(byte(i));
-        let number = |i: usize| (words[i] < 256).then_some(byte(i));
+        let side = |i: usize| (words[i] < layout::NO_SIDE).then_some(byte(i));
+        let number = |i: usize| (words[i] < layout::NO_NUMBER).then_some(byte(i));
         let pose = |i: usize| {
             flag(i).then(|| Pose { x: float(i + 1), y: float(i + 2), theta: float(i + 3), radius: float(i + 4) })
         };
         Some(Situation {
             sizes: std::array::from_fn(float),
-            distance: float(14),
-            sides: byte(15),
-            stopped: flag(16),
-            phase: byte(17),
-            state: byte(18),
-            set_play: byte(19),
-            kicking_side: side(20),
-            goalkeepers: [number(21), number(22)],
+            distance: float(layout::PENALTY_PLACEMENT_DISTANCE),
+            sides: byte(layout::SIDES),
+            stopped: flag(layout::STOPPED),
+            phase: byte(layout::PHASE),
+            state: byte(layout::STATE),
+            set_play: byte(layout::SET_PLAY),
+            kicking_side: side(layout::KICKING_SIDE),
+            goalkeepers: [number(layout::GOALKEEPERS), number(layout::GOALKEEPERS + 1)],
             players: std::array::from_fn(|s| {
                 std::array::from_fn(|p| {
                     let i = s * PLAYERS + p;
                     Player {
-                        penalty: byte(23 + i),
-                        pose: pose(63 + 5 * i),
-                        reference: pose(263 + 5 * i),
-                        allowance: float(463 + i),
-                        inside: flag(503 + i),
+                        penalty: byte(layout::PENALTIES + i),
+                        pose: pose(layout::POSES + layout::POSE_WORDS * i),
+                        reference: pose(layout::REFERENCES + layout::POSE_WORDS * i),
+                        allowance: float(layout::ALLOWANCES + i),
+                        inside: flag(layout::PREVIOUSLY_INSIDE + i),
                     }
                 })
             }),
-            ball: [float(543), float(544), float(545)],
-            last_contact: side(546),
-            restart: flag(547).then(|| Restart {
-                kind: byte(548),
-                set_play: byte(549),
-                side: byte(550),
-                kicker: number(551),
-                kick_position: [float(552), float(553)],
-                flags: std::array::from_fn(|i| flag(554 + i)),
+            ball: [float(layout::BALL), float(layout::BALL + 1), float(layout::BALL + 2)],
+            last_contact: side(layout::LAST_CONTACT),
+            restart: flag(layout::RESTART).then(|| Restart {
+                kind: byte(layout::RESTART_KIND),
+                set_play: byte(layout::RESTART_SET_PLAY),
+                side: byte(layout::RESTART_SIDE),
+                kicker: number(layout::RESTART_KICKER),
+                kick_position: [float(layout::KICK_POSITION), float(layout::KICK_POSITION + 1)],
+                flags: std::array::from_fn(|i| flag(layout::OTHER_TOUCH + i)),
             }),
-            invalid_goals: flag(558),
-            rested: flag(559),
-            wish: match words[560] {
+            invalid_goals: flag(layout::INVALID_GOALS_JUDGED),
+            rested: flag(layout::BALL_RESTED),
+            wish: match words[layout::WISH] {
                 0 => Wish::Nothing,
                 1 => Wish::BallAtRestart,
                 2 => Wish::BallInSet,
-                3 => Wish::Penalty(byte(561), byte(562)),
-                4 => Wish::PenaltyShot(byte(561), byte(562)),
-                _ => Wish::Goalkeeper(byte(561)),
+                3 => Wish::Penalty(byte(layout::WISHED_SIDE), byte(layout::WISHED_PLAYER)),
+                4 => Wish::PenaltyShot(byte(layout::WISHED_SIDE), byte(layout::WISHED_PLAYER)),
+                _ => Wish::Goalkeeper(byte(layout::WISHED_SIDE)),
             },
             xs,
             ys,
@@ -251,26 +239,6 @@ impl Situation {
 
 /// The number of values that the column of word i has; they begin at 0.
 pub fn values(i: usize) -> u64 {
-    match i {
-        15 | 16 => 2,
-        17 => 5,
-        18 => 6,
-        19 => 8,
-        20 => 3,
-        21 | 22 => 257,
-        23..=62 => 14,
-        63..=462 if (i - 63) % 5 == 0 => 2,
-        503..=542 => 2,
-        546 => 3,
-        547 => 2,
-        548 => 4,
-        549 => 8,
-        550 => 2,
-        551 => 257,
-        554..=559 => 2,
-        560 => 6,
-        561 => 2,
-        562 => 256,
-        _ => 1 << 32,
-    }
+    let run = layout::RUNS.iter().rev().find(|run| run.0 <= i).expect("the first run begins at 0");
+    u64::from(run.2[(i - run.0) % run.2.len()]) + 1
 }

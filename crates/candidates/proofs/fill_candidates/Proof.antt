@@ -1,28 +1,33 @@
--- On a refusal nothing is written, and the answer is empty; else what the two calls put is the answer, and has room.
+-- On a refusal nothing is written, and the answer is empty. Else the first candidate is stored, the rest of the list is lent from its second place on and comes back with its
+-- front filled, and what stands at the front then is the answer.
 use denote.Ref.{now}
 use mathlib.Core.Path.{_≡_, sym, ap, _∙_}
 use mathlib.Core.List.{List, _∷_}
-use Prim.Native.Nat.{_<_}
+use Prim.Native.Nat.{_+_, _<_}
+use native.Mathlib.Omega.{arith}
 use borrow.Author.Needs.{needs}
 use lib.Ieee.{Float}
-use lib.ListN.{length}
+use lib.ListN.{length, length-set, length-take, length-drop}
 use Rattle.lists.specs.Gather.{flatTo}
 use Rattle.lists.specs.Put.{fronted}
-use Rattle.floats.specs.Candidates.{placesAt}
+use Rattle.spacing.specs.Spacing.{placesAt}
 use Rattle.candidates.specs.Candidates.{refusalOf, answerOf}
-use Rattle.candidates.proofs.CandidatesFill.{filled-as}
+use Rattle.candidates.proofs.CandidatesFill.{length-fronted, fill-rest, filled-as}
 use Rattle.candidates.proofs.CandidatesList.{held, refusal-told, answer-filled, answer-refused}
 use Rattle.candidates.proofs.fill_candidates.Statement.{statement}
 use Rattle.candidates.proofs.fill_candidates.Tie as tie
 
 -- the refusal that the code has in hand
-told : (c : tie.After-refusal) → c .refusal .result ≡ refusalOf (c .before .before .before .before .before .args .start) (c .before .before .before .before .before .args .min) (c .before .before .before .before .before .args .max) (c .before .before .before .before .before .args .step) (length (now (c .before .before .before .before .before .args .list)))
+told : (c : tie.After-refusal) → (let u = c .before .before in let a = u .before .before .before .args in
+    c .refusal .result ≡ refusalOf (a .start) (a .min) (a .max) (a .step) (length (now (a .list))))
 told c =
-    let w = c .before .before .before in
-    let a = w .before .before .args in
-    let f = held (a .start) (a .min) (a .max) (a .step) (w .before .before .good) in
-    refusal-told (a .start) (a .min) (a .max) (a .step) f (c .before .before .unfit .result) (w .walk-of .result .count) (length (now (a .list))) (c .refusal .result)
-    (c .before .before .unfit .ensures) (w .walk-of .ensures .1) (c .refusal .ensures)
+    let u = c .before .before in
+    let w = u .before in
+    let start = w .before .before in
+    let a = start .args in
+    let f = held (a .start) (a .min) (a .max) (a .step) (start .good) in
+    refusal-told (a .start) (a .min) (a .max) (a .step) f (u .unfit .result) (w .walk-of .result .count) (length (now (a .list))) (c .refusal .result)
+    (u .unfit .ensures) (w .walk-of .ensures .1) (c .refusal .ensures)
 
 walk-of-requires : tie.Need-walk-of-requires
 walk-of-requires c κs = search needs
@@ -42,7 +47,8 @@ refusal-requires c κs = search needs
 returns : tie.Need-returns
 unfolding fronted
 returns c =
-    let a = c .before .before .before .before .before .before .args in
+    let u = c .before .before .before in
+    let a = u .before .before .before .args in
     let e = answer-refused (a .start) (a .min) (a .max) (a .step) (length (now (a .list))) (λ z. c .if1 .taken (told (c .before) ∙ z)) in
     (ap length (sym e), ap (λ (l : List Float). fronted l (now (a .list))) (sym e))
 
@@ -50,27 +56,59 @@ candidate-first-requires : tie.Need-candidate-first-requires
 candidate-first-requires c κs = search needs
 
 -- what is put has room, and is the answer
-filled : (c : tie.After-candidate-first) → (let s = c .before .before .before .before .before .before .before in let l = flatTo (c .before .before .before .before .before .walk-of .result .turns) (placesAt (c .candidate-first .result) (s .args .min) (s .args .max) (s .args .step)) in
-    (length l < length (now (s .args .list))) × (c .candidate-first .result ∷ l ≡ answerOf (s .args .start) (s .args .min) (s .args .max) (s .args .step) (length (now (s .args .list)))))
+filled : (c : tie.After-candidate-first) → (let refused = c .before .before in let w = refused .before .before .before in let a = w .before .before .args in
+    let l = flatTo (w .walk-of .result .turns) (placesAt (c .candidate-first .result) (a .min) (a .max) (a .step)) in
+    (length l < length (now (a .list))) × (c .candidate-first .result ∷ l ≡ answerOf (a .start) (a .min) (a .max) (a .step) (length (now (a .list)))))
 filled c =
-    let w = c .before .before .before .before .before in
-    let a = w .before .before .args in
-    let f = held (a .start) (a .min) (a .max) (a .step) (w .before .before .good) in
+    let refused = c .before .before in
+    let w = refused .before .before .before in
+    let start = w .before .before in
+    let a = start .args in
+    let f = held (a .start) (a .min) (a .max) (a .step) (start .good) in
     answer-filled (a .start) (a .min) (a .max) (a .step) f (c .candidate-first .result) (w .walk-of .result .turns) (length (now (a .list)))
-    (sym (told (c .before .before)) ∙ c .before .if1 .left) (c .candidate-first .ensures) (w .walk-of .ensures .0)
+    (sym (told refused) ∙ c .before .if1 .left) (c .candidate-first .ensures) (w .walk-of .ensures .0)
 
-fill-requires : tie.Need-fill-requires
-fill-requires c κs = filled (c .before) .0
+slice-write-list : tie.Need-slice-write-list
+slice-write-list c = omega (arith, filled c .0)
+
+sub-fill-turns : tie.Need-sub-fill-turns
+sub-fill-turns c = simp length-set (omega (arith, filled c .0))
+
+part-fill-turns-start : tie.Need-part-fill-turns-start
+part-fill-turns-start c = simp length-set (omega (arith, filled c .0))
+
+part-fill-turns-end : tie.Need-part-fill-turns-end
+part-fill-turns-end c = search needs
+
+fill-turns-requires : tie.Need-fill-turns-requires
+fill-turns-requires c κs = simp (length-take, length-drop, length-set) (omega (arith, filled (c .before) .0))
+
+add-result : tie.Need-add-result
+add-result c =
+    let call = c .before .before in
+    let first = call .before .before in
+    let w = first .before .before .before .before .before in
+    let lent = w .before .before .good .1 .1 .1 .1 .0 in
+    omega (arith, call .fill-turns .ensures .0, filled first .0)
 
 same-length : tie.Need-same-length
-same-length c = search needs
+same-length c =
+    let call = c .before .before .fill-turns in
+    let first = c .before .before .before .before in
+    let w = first .before .before .before .before .before in
+    let a = w .before .before .args in
+    ap length (fill-rest (now (a .list)) (flatTo (w .walk-of .result .turns) (placesAt (first .candidate-first .result) (a .min) (a .max) (a .step))) (call .last .0) (first .candidate-first .result) (omega (arith, filled first .0)) (call .ensures .1))
+    ∙ length-fronted _ (now (a .list)) (filled first .0)
 
 returns-2 : tie.Need-returns-2
 returns-2 c =
-    let call = c .before .before .fill in
+    let call = c .before .before .fill-turns in
     let first = c .before .before .before .before in
-    let a = first .before .before .before .before .before .before .before .args in
-    filled-as _ (answerOf (a .start) (a .min) (a .max) (a .step) (length (now (a .list)))) (now (a .list)) (call .last .0) (call .result) (filled first .1) (call .ensures .0) (call .ensures .1)
+    let w = first .before .before .before .before .before in
+    let a = w .before .before .args in
+    let l = flatTo (w .walk-of .result .turns) (placesAt (first .candidate-first .result) (a .min) (a .max) (a .step)) in
+    filled-as (first .candidate-first .result ∷ l) (answerOf (a .start) (a .min) (a .max) (a .step) (length (now (a .list)))) (now (a .list)) _ (call .result + 1)
+    (filled first .1) (omega (arith, call .ensures .0)) (fill-rest (now (a .list)) l (call .last .0) (first .candidate-first .result) (omega (arith, filled first .0)) (call .ensures .1))
 
 pub fill-candidates-spec : {M : Type 1} → statement M
 fill-candidates-spec =
@@ -83,6 +121,11 @@ fill-candidates-spec =
     refusal-requires
     returns
     candidate-first-requires
-    fill-requires
+    slice-write-list
+    sub-fill-turns
+    part-fill-turns-start
+    part-fill-turns-end
+    fill-turns-requires
+    add-result
     same-length
     returns-2)

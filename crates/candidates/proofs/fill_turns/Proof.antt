@@ -1,15 +1,17 @@
--- After k turns the front of the list holds their candidates, and `n` is how many these are.
+-- After k turns the front of the list holds their candidates, and `n` is how many these are. The second put of a turn finds what the first one left.
 use denote.Ref.{now}
-use mathlib.Core.Path.{_≡_, refl, sym, subst, _∙_}
+use mathlib.Core.Path.{_≡_, refl, sym, ap, ap₂, subst, _∙_}
+use mathlib.Core.List.{List}
 use Prim.Native.Nat.{ℕ, _≤_, _-_}
 use borrow.Author.Needs.{needs}
 use lib.ListN.{length}
+use lib.Ieee.{Float, le}
 use Rattle.lists.specs.Gather.{flatTo}
-use Rattle.lists.specs.Put.{fronted}
+use Rattle.lists.specs.Put.{countIf, putIf, fronted}
 use Rattle.lists.proofs.Put.{fronted-none, put-done}
-use Rattle.floats.specs.Candidates.{placesAt}
+use Rattle.spacing.specs.Spacing.{placesAt}
 use Rattle.candidates.proofs.CandidatesWalk.{turn-room, count-grows}
-use Rattle.candidates.proofs.CandidatesFill.{put-grows}
+use Rattle.candidates.proofs.CandidatesFill.{rooms, room-after, put-grows}
 use Rattle.candidates.proofs.fill_turns.Statement.{statement}
 use Rattle.candidates.proofs.fill_turns.Tie as tie
 
@@ -36,16 +38,30 @@ add-towards-halfway-line c = search needs
 towards-halfway-line-requires : tie.Need-towards-halfway-line-requires Inv-loop μ-loop
 towards-halfway-line-requires c κs = search needs
 
-put-turn-requires : tie.Need-put-turn-requires Inv-loop μ-loop
-put-turn-requires c κs =
+put-if-requires : tie.Need-put-if-requires Inv-loop μ-loop
+put-if-requires c κs =
     let places = c .before in
     let lower = places .before .towards-goal-line in
     let upper = places .towards-halfway-line in
     let at = places .before .before .before in
     let start = at .before .before in
     let a = start .args in
-    turn-room (a .first) (a .min) (a .max) (a .step) (lower .result) (upper .result) (at .loop .k) (a .turns) (at .loop .n) (length (at .loop .list)) (places .before .before .loop-test .taken)
-    (lower .ensures) (upper .ensures) (at .loop .inv .3) (subst (λ (m : ℕ). length (flatTo (a .turns) (placesAt (a .first) (a .min) (a .max) (a .step))) ≤ m) (sym (at .loop .inv .1)) (start .pre))
+    rooms (le (a .min) (lower .result)) (le (upper .result) (a .max)) (at .loop .n) (length (at .loop .list))
+    (turn-room (a .first) (a .min) (a .max) (a .step) (lower .result) (upper .result) (at .loop .k) (a .turns) (at .loop .n) (length (at .loop .list)) (places .before .before .loop-test .taken)
+    (lower .ensures) (upper .ensures) (at .loop .inv .3) (subst (λ (m : ℕ). length (flatTo (a .turns) (placesAt (a .first) (a .min) (a .max) (a .step))) ≤ m) (sym (at .loop .inv .1)) (start .pre)))
+
+put-if-requires-2 : tie.Need-put-if-requires-2 Inv-loop μ-loop
+put-if-requires-2 c κs =
+    let one = c .before .before .before in
+    let places = one .before .before in
+    let lower = places .before .towards-goal-line in
+    let upper = places .towards-halfway-line in
+    let at = places .before .before .before in
+    let start = at .before .before in
+    let a = start .args in
+    room-after (le (upper .result) (a .max)) (countIf (le (a .min) (lower .result)) (at .loop .n)) (one .put-if .result) (length (at .loop .list)) (length (one .put-if .last .0)) (one .put-if .ensures .0) (one .put-if .kept .0)
+    (turn-room (a .first) (a .min) (a .max) (a .step) (lower .result) (upper .result) (at .loop .k) (a .turns) (at .loop .n) (length (at .loop .list)) (places .before .before .loop-test .taken)
+    (lower .ensures) (upper .ensures) (at .loop .inv .3) (subst (λ (m : ℕ). length (flatTo (a .turns) (placesAt (a .first) (a .min) (a .max) (a .step))) ≤ m) (sym (at .loop .inv .1)) (start .pre)))
 
 add-k : tie.Need-add-k Inv-loop μ-loop
 add-k c = search needs
@@ -55,20 +71,23 @@ loop-less c = search needs
 
 loop-again : tie.Need-loop-again Inv-loop μ-loop
 loop-again c =
-    let call = c .before .before .put-turn in
-    let places = c .before .before .before .before in
+    let two = c .before .before in
+    let one = two .before .before .before .before in
+    let places = one .before .before in
     let lower = places .before .towards-goal-line in
     let upper = places .towards-halfway-line in
     let at = places .before .before .before in
     let start = at .before .before in
     let a = start .args in (
       search needs,
-      call .kept .0 ∙ at .loop .inv .1,
-      put-grows (a .first) (a .min) (a .max) (a .step) (lower .result) (upper .result) (at .loop .k) (at .loop .n) (now (a .list)) (at .loop .list) (call .last .0) (lower .ensures) (upper .ensures)
+      two .put-if2 .kept .0 ∙ one .put-if .kept .0 ∙ at .loop .inv .1,
+      put-grows (a .first) (a .min) (a .max) (a .step) (lower .result) (upper .result) (at .loop .k) (at .loop .n) (now (a .list)) (at .loop .list) (two .put-if2 .last .0) (lower .ensures) (upper .ensures)
           (turn-room (a .first) (a .min) (a .max) (a .step) (lower .result) (upper .result) (at .loop .k) (a .turns) (at .loop .n) (length (now (a .list))) (places .before .before .loop-test .taken)
           (lower .ensures) (upper .ensures) (at .loop .inv .3) (start .pre))
-          (at .loop .inv .2) (at .loop .inv .3) (call .ensures .1),
-      count-grows (a .first) (a .min) (a .max) (a .step) (lower .result) (upper .result) (at .loop .k) (at .loop .n) (call .result) (lower .ensures) (upper .ensures) (at .loop .inv .3) (call .ensures .0),
+          (at .loop .inv .2) (at .loop .inv .3)
+          (two .put-if2 .ensures .1 ∙ ap₂ (λ (l : List Float) (k : ℕ). putIf (le (upper .result) (a .max)) l k (upper .result)) (one .put-if .ensures .1) (one .put-if .ensures .0)),
+      count-grows (a .first) (a .min) (a .max) (a .step) (lower .result) (upper .result) (at .loop .k) (at .loop .n) (two .put-if2 .result) (lower .ensures) (upper .ensures) (at .loop .inv .3)
+          (two .put-if2 .ensures .0 ∙ ap (countIf (le (upper .result) (a .max))) (one .put-if .ensures .0)),
     )
 
 same-length : tie.Need-same-length Inv-loop μ-loop
@@ -91,7 +110,8 @@ fill-turns-spec =
     towards-goal-line-requires
     add-towards-halfway-line
     towards-halfway-line-requires
-    put-turn-requires
+    put-if-requires
+    put-if-requires-2
     add-k
     loop-less
     loop-again

@@ -9,18 +9,22 @@ crossed-requires c κs = search needs
 is-nan-requires : tie.Need-is-nan-requires
 is-nan-requires c κs = search needs
 
-beyond-requires : tie.Need-beyond-requires
-beyond-requires c κs = search needs
+too-far-requires : tie.Need-too-far-requires
+too-far-requires c κs = search needs
 
-beyond-requires-2 : tie.Need-beyond-requires-2
-beyond-requires-2 c κs = search needs
+too-far-requires-2 : tie.Need-too-far-requires-2
+too-far-requires-2 c κs = search needs
 
 is-nan-requires-2 : tie.Need-is-nan-requires-2
 is-nan-requires-2 c κs = search needs
 
 returns : tie.Need-returns
 unfolding unfit
-returns c = simp (c .is-nan2 .ensures, c .before .beyond2 .ensures, c .before .before .beyond .ensures, c .before .before .before .is-nan .ensures, c .before .before .before .before .crossed .ensures)
+returns c =
+    let high = c .before in
+    let low = high .before in
+    let start = low .before in
+    simp (c .is-nan2 .ensures, high .too-far2 .ensures, low .too-far .ensures, start .is-nan .ensures, start .before .crossed .ensures)
 
 pub unfit-spec : {M : Type 1} → statement M
 unfit-spec =
@@ -28,7 +32,7 @@ unfit-spec =
     (tie.spec
     crossed-requires
     is-nan-requires
-    beyond-requires
-    beyond-requires-2
+    too-far-requires
+    too-far-requires-2
     is-nan-requires-2
     returns)

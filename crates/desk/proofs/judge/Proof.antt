@@ -79,46 +79,73 @@ same-length : tie.Need-same-length
 same-length c = search needs
 
 returns : tie.Need-returns
-returns c = let s = c .before .before .before .before .before .before .before .before .before .before .before .before in
+returns c =
+    let told = c .before .before .before .before .before .before in
+    let read = told .before .before in
+    let a = read .before .before .before .before .args in
     let call = c .before .before .judge-numbers in
-    let told = c .before .before .before .before .before .before .before .before .read-input .ensures in
-    told-as _ _ (now (s .args .out)) _ (call .result) (judged-read (now (s .args .text)) _ _ _ (length (now (s .args .out))) (sym (told .0) ∙ c .before .before .before .before .before .before .input .given .1) (told .1)) (call .ensures)
+    let known = read .read-input .ensures in
+    told-as _ _ (now (a .out)) _ (call .result) (judged-read (now (a .text)) _ _ _ (length (now (a .out))) (sym (known .0) ∙ told .input .given .1) (known .1)) (call .ensures)
 
 same-length-2 : tie.Need-same-length-2
 same-length-2 c = search needs
 
 returns-2 : tie.Need-returns-2
-returns-2 c = fault-told (now (c .before .before .before .before .before .before .before .before .before .before .before .before .args .text)) (now (c .before .before .before .before .before .before .before .before .before .before .before .before .args .out)) _ _ _ _ (c .before .before .before .before .before .before .before .before .read-input .ensures .0) (c .before .before .before .before .before .before .input2 .given .1) (c .before .before .number-line .ensures)
+returns-2 c =
+    let told = c .before .before .before .before .before .before in
+    let read = told .before .before in
+    let a = read .before .before .before .before .args in
+    fault-told (now (a .text)) (now (a .out)) _ _ _ _ (read .read-input .ensures .0) (told .input2 .given .1) (c .before .before .number-line .ensures)
 
 same-length-3 : tie.Need-same-length-3
 same-length-3 c = search needs
 
 returns-3 : tie.Need-returns-3
-returns-3 c = fault-told (now (c .before .before .before .before .before .before .before .before .before .before .before .before .args .text)) (now (c .before .before .before .before .before .before .before .before .before .before .before .before .args .out)) _ _ _ _ (c .before .before .before .before .before .before .before .before .read-input .ensures .0) (c .before .before .before .before .before .before .input3 .given .1) (c .before .before .number-line2 .ensures)
+returns-3 c =
+    let told = c .before .before .before .before .before .before in
+    let read = told .before .before in
+    let a = read .before .before .before .before .args in
+    fault-told (now (a .text)) (now (a .out)) _ _ _ _ (read .read-input .ensures .0) (told .input3 .given .1) (c .before .before .number-line2 .ensures)
 
 same-length-4 : tie.Need-same-length-4
 same-length-4 c = search needs
 
 returns-4 : tie.Need-returns-4
-returns-4 c = fault-told (now (c .before .before .before .before .before .before .before .before .before .before .before .before .args .text)) (now (c .before .before .before .before .before .before .before .before .before .before .before .before .args .out)) _ _ _ _ (c .before .before .before .before .before .before .before .before .read-input .ensures .0) (c .before .before .before .before .before .before .input4 .given .1) (c .before .before .number-line3 .ensures)
+returns-4 c =
+    let told = c .before .before .before .before .before .before in
+    let read = told .before .before in
+    let a = read .before .before .before .before .args in
+    fault-told (now (a .text)) (now (a .out)) _ _ _ _ (read .read-input .ensures .0) (told .input4 .given .1) (c .before .before .number-line3 .ensures)
 
 same-length-5 : tie.Need-same-length-5
 same-length-5 c = search needs
 
 returns-5 : tie.Need-returns-5
-returns-5 c = fault-told (now (c .before .before .before .before .before .before .before .before .before .before .before .before .args .text)) (now (c .before .before .before .before .before .before .before .before .before .before .before .before .args .out)) _ _ _ _ (c .before .before .before .before .before .before .before .before .read-input .ensures .0) (c .before .before .before .before .before .before .input5 .given .1) (c .before .before .number-line4 .ensures)
+returns-5 c =
+    let told = c .before .before .before .before .before .before in
+    let read = told .before .before in
+    let a = read .before .before .before .before .args in
+    fault-told (now (a .text)) (now (a .out)) _ _ _ _ (read .read-input .ensures .0) (told .input5 .given .1) (c .before .before .number-line4 .ensures)
 
 same-length-6 : tie.Need-same-length-6
 same-length-6 c = search needs
 
 returns-6 : tie.Need-returns-6
-returns-6 c = fault-told (now (c .before .before .before .before .before .before .before .before .before .before .before .before .args .text)) (now (c .before .before .before .before .before .before .before .before .before .before .before .before .args .out)) _ _ _ _ (c .before .before .before .before .before .before .before .before .read-input .ensures .0) (c .before .before .before .before .before .before .input6 .given .1) (c .before .before .number-line5 .ensures)
+returns-6 c =
+    let told = c .before .before .before .before .before .before in
+    let read = told .before .before in
+    let a = read .before .before .before .before .args in
+    fault-told (now (a .text)) (now (a .out)) _ _ _ _ (read .read-input .ensures .0) (told .input6 .given .1) (c .before .before .number-line5 .ensures)
 
 same-length-7 : tie.Need-same-length-7
 same-length-7 c = search needs
 
 returns-7 : tie.Need-returns-7
-returns-7 c = fault-told (now (c .before .before .before .before .before .before .before .before .before .before .before .before .args .text)) (now (c .before .before .before .before .before .before .before .before .before .before .before .before .args .out)) _ _ _ _ (c .before .before .before .before .before .before .before .before .read-input .ensures .0) (c .before .before .before .before .before .before .input7 .given .1) (c .before .before .number-line6 .ensures)
+returns-7 c =
+    let told = c .before .before .before .before .before .before in
+    let read = told .before .before in
+    let a = read .before .before .before .before .args in
+    fault-told (now (a .text)) (now (a .out)) _ _ _ _ (read .read-input .ensures .0) (told .input7 .given .1) (c .before .before .number-line6 .ensures)
 
 pub judge-spec : {M : Type 1} → statement M
 judge-spec =

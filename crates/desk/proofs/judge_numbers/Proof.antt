@@ -1,8 +1,9 @@
 use denote.Ref.{now}
-use mathlib.Core.Path.{sym, ap, _∙_}
-use mathlib.Core.Path.{_≡_}
+use mathlib.Core.Path.{_≡_, sym}
 use Prim.Native.Nat.{_+_, _-_}
 use lib.ListN.{replicate}
+use Rattle.columns.specs.Layout.{wordCount}
+use Rattle.input.specs.Input.{mostPlaces, firstX, firstY}
 use Rattle.floats.specs.Arithmetic.{zero32}
 use native.Mathlib.Omega.{arith}
 use lib.Seq.{length-take-le}
@@ -55,22 +56,22 @@ fill-places-requires-2 : tie.Need-fill-places-requires-2
 fill-places-requires-2 c κs = search needs
 
 slice-aggregate-situation-of : tie.Need-slice-aggregate-situation-of
-slice-aggregate-situation-of c = let s = c .before .before .before .before .before .before .before .before .before .before .before in sym (length-take-le 563 (now (s .args .numbers)) (omega (arith, s .pre .2)))
+slice-aggregate-situation-of c = let s = c .before .before .before .before .before .before .before .before .before .before .before in sym (length-take-le wordCount (now (s .args .numbers)) (omega (arith, s .pre .2)))
 
 situation-of-requires : tie.Need-situation-of-requires
 situation-of-requires c κs = search needs
 
 array-share-prefix-xs : tie.Need-array-share-prefix-xs
-array-share-prefix-xs c = omega (arith, c .before .before .before .before .before .before .before .before .before .before .before .before .pre .0, c .before .before .before .before .before .before .before .fill-places .kept .1 .0)
+array-share-prefix-xs c = let filled = c .before .before .before .before .before .before .before in omega (arith, filled .before .before .before .before .before .pre .0, filled .fill-places .kept .1 .0)
 
 slice-aggregate-judge-situation : tie.Need-slice-aggregate-judge-situation
-slice-aggregate-judge-situation c = sym (length-take-le _ _ (omega (arith, c .before .before .before .before .before .before .before .before .before .before .before .before .before .pre .0, c .before .before .before .before .before .before .before .before .fill-places .kept .1 .0)))
+slice-aggregate-judge-situation c = let filled = c .before .before .before .before .before .before .before .before in sym (length-take-le _ _ (omega (arith, filled .before .before .before .before .before .pre .0, filled .fill-places .kept .1 .0)))
 
 array-share-prefix-ys : tie.Need-array-share-prefix-ys
-array-share-prefix-ys c = omega (arith, c .before .before .before .before .before .before .before .before .before .before .before .before .before .pre .1, c .before .before .before .before .fill-places2 .kept .1 .0)
+array-share-prefix-ys c = let filled = c .before .before .before .before in omega (arith, filled .before .before .before .before .before .before .before .before .before .pre .1, filled .fill-places2 .kept .1 .0)
 
 slice-aggregate-judge-situation-2 : tie.Need-slice-aggregate-judge-situation-2
-slice-aggregate-judge-situation-2 c = sym (length-take-le _ _ (omega (arith, c .before .before .before .before .before .before .before .before .before .before .before .before .before .before .pre .1, c .before .before .before .before .before .fill-places2 .kept .1 .0)))
+slice-aggregate-judge-situation-2 c = let filled = c .before .before .before .before .before in sym (length-take-le _ _ (omega (arith, filled .before .before .before .before .before .before .before .before .before .pre .1, filled .fill-places2 .kept .1 .0)))
 
 judge-situation-requires : tie.Need-judge-situation-requires
 judge-situation-requires c κs = search needs
@@ -81,17 +82,20 @@ same-length c = search needs
 returns : tie.Need-returns
 unfolding numbersText
 returns c =
-    let s = c .before .before .before .before .before .before .before .before .before .before .before .before .before .before .before .before .before .before in
+    let known = c .before .before .before .before .before .before in
+    let after-y = known .before .before .before in
+    let after-x = after-y .before .before .before .before in
+    let s = after-x .before .before .before .before .before in
     let a = s .args in
     let ns = now (a .numbers) in
-    let first = c .before .before .before .before .before .before .before .before .before .before .before .before .before .fill-places in
-    let second = c .before .before .before .before .before .before .before .before .before .fill-places2 in
+    let first = after-x .fill-places in
+    let second = after-y .fill-places2 in
     let call = c .before .before .judge-situation in
-    let same : 564 + a .nx - 564 ≡ a .nx = omega arith in
-    let same-y : 565 + a .nx + a .ny - (565 + a .nx) ≡ a .ny = omega arith in
-    let xs = places-told ns 564 (a .nx) (564 + a .nx - 564) (replicate 4097 zero32) _ same (first .ensures) (s .pre .0) (omega (arith, s .pre .2)) in
-    let ys = places-told ns (565 + a .nx) (a .ny) (565 + a .nx + a .ny - (565 + a .nx)) (replicate 4097 zero32) _ same-y (second .ensures) (s .pre .1) (omega (arith, s .pre .2)) in
-    told-as _ _ (now (a .out)) _ (call .result) (text-same _ _ _ _ _ _ _ (c .before .before .before .before .before .before .situation-of .ensures) xs ys) (call .ensures)
+    let same : firstX + a .nx - firstX ≡ a .nx = omega arith in
+    let same-y : firstY + a .nx + a .ny - (firstY + a .nx) ≡ a .ny = omega arith in
+    let xs = places-told ns firstX (a .nx) (firstX + a .nx - firstX) (replicate mostPlaces zero32) _ same (first .ensures) (s .pre .0) (omega (arith, s .pre .2)) in
+    let ys = places-told ns (firstY + a .nx) (a .ny) (firstY + a .nx + a .ny - (firstY + a .nx)) (replicate mostPlaces zero32) _ same-y (second .ensures) (s .pre .1) (omega (arith, s .pre .2)) in
+    told-as _ _ (now (a .out)) _ (call .result) (text-same _ _ _ _ _ _ _ (known .situation-of .ensures) xs ys) (call .ensures)
 
 pub judge-numbers-spec : {M : Type 1} → statement M
 judge-numbers-spec =

@@ -1,4 +1,7 @@
+-- The refusal's line stands where the sheet would; a sheet stays as it was written.
 use denote.Ref.{now}
+use mathlib.Core.Path.{refl, sym, _∙_}
+use Rattle.sheet.specs.declared.text.SheetAnswer.the-variants.{Refused, Written}
 use Rattle.desk.proofs.Judged.{reply-told}
 use borrow.Author.Needs.{needs}
 use Rattle.desk.proofs.judge_situation.Statement.{statement}
@@ -7,17 +10,47 @@ use Rattle.desk.proofs.judge_situation.Tie as tie
 write-sheet-requires : tie.Need-write-sheet-requires
 write-sheet-requires c κs = search needs
 
-reply-requires : tie.Need-reply-requires
-reply-requires c κs = search needs
+enum-known-answer : tie.Need-enum-known-answer
+enum-known-answer c = search needs
+
+refused-line-requires : tie.Need-refused-line-requires
+refused-line-requires c κs = search needs
+
+enum-known-answer-2 : tie.Need-enum-known-answer-2
+enum-known-answer-2 c = search needs
 
 same-length : tie.Need-same-length
 same-length c = search needs
 
 returns : tie.Need-returns
-returns c = let s = c .before .before .before .before .before .before .before .before .before .before .before in
-    let first = c .before .before .before .before .before .before .write-sheet in
-    let second = c .before .before .reply in
-    reply-told (s .args .s) (now (s .args .xs)) (now (s .args .ys)) (now (s .args .out)) (first .result) _ _ (second .result) (first .ensures .0) (first .ensures .1) (second .ensures .0) (second .ensures .1)
+returns c =
+    let known = c .before .before .before .before .before in
+    let written = known .before .before .before .before in
+    let a = written .before .before .before .before .before .args in
+    let first = written .write-sheet in
+    let line = c .before .before .refused-line in
+    reply-told (a .s) (now (a .xs)) (now (a .ys)) (now (a .out)) (Refused _) _ _ _ (sym (known .answer .given .1) ∙ first .ensures .0) (first .ensures .1) (line .ensures .0) (line .ensures .1)
+
+same-length-2 : tie.Need-same-length-2
+same-length-2 c = search needs
+
+returns-2 : tie.Need-returns-2
+returns-2 c =
+    let known = c .before in
+    let written = known .before .before .before .before in
+    let a = written .before .before .before .before .before .args in
+    let first = written .write-sheet in
+    reply-told (a .s) (now (a .xs)) (now (a .ys)) (now (a .out)) (Written _) _ _ _ (sym (known .answer2 .given .1) ∙ first .ensures .0) (first .ensures .1) refl refl
 
 pub judge-situation-spec : {M : Type 1} → statement M
-judge-situation-spec = tie.close (tie.spec write-sheet-requires reply-requires same-length returns)
+judge-situation-spec =
+    tie.close
+    (tie.spec
+    write-sheet-requires
+    enum-known-answer
+    refused-line-requires
+    enum-known-answer-2
+    same-length
+    returns
+    same-length-2
+    returns-2)

@@ -13,6 +13,7 @@ use lib.Dec.{T, leb, ltb, eqb, ltb→lt, leb→le, eqb→eq, lt→ltb}
 use lib.Pow.{pow-pos, pow-add, pow-lt}
 use lib.Ieee.{Float, nan, inf, fin, Format, prec, emax, low, up, down, neg, lt, eq, le, below, level, fits, isNan}
 use lib.Ieee.Fits.{and-i, eq→eqb, and-l, and-r, down-pos}
+use Rattle.lists.proofs.Bools.{same-bool}
 use Rattle.floats.specs.Leaves.{withSign, abs}
 use Rattle.floats.specs.Values.{posZero, Alike}
 use Rattle.floats.specs.Height.{mag, mid, height}
@@ -133,12 +134,6 @@ module _ {a b A B : ℕ} (c : Scaled a b A B) where
   sum-down h = scaled-lt 0 (A + B) 0 (a + b) (c .q) (c .l) (c .q-pos) (zero-mul (c .q) ∙ sym (zero-mul (c .l))) (add-mul A B (c .q) ∙ ap₂ (λ (x y : ℕ). x + y) (sym (c .left)) (sym (c .right)) ∙ sym (add-mul a b (c .l))) h
 
 -- ---- the order
-pub same-bool : (a b : Bool) → (T a → T b) → (T b → T a) → a ≡ b
-same-bool true true h k = refl
-same-bool true false h k = absurd (h tt)
-same-bool false true h k = absurd (k tt)
-same-bool false false h k = refl
-
 same-test : (a b c d : ℕ) → (a < b → c < d) → (c < d → a < b) → ltb a b ≡ ltb c d
 same-test a b c d h k = same-bool (ltb a b) (ltb c d) (λ t. lt→ltb c d (h (ltb→lt a b t))) (λ t. lt→ltb a b (k (ltb→lt c d t)))
 

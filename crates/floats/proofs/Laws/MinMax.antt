@@ -1,5 +1,5 @@
 -- min, max and clamp, over values that fit one format. minimumNumber picks the value with the least key, and a key tells all values
--- apart, zeros of unlike signs too: so it commutes and is associative, and gives one of the two operands. maximumNumber is the same with the signs changed. Assumes nothing.
+-- apart, zeros of unlike signs too: so it commutes, and gives one of the two operands. maximumNumber is the same with the signs changed. Assumes nothing.
 use mathlib.Core.Path.{_≡_, refl, sym, ap, ap₂, _∙_, subst}
 use mathlib.Core.Logic.{_⊎_, inl, inr}
 use mathlib.Core.Bool.{Bool, true, false, not, cond, _&&_, _||_}
@@ -15,7 +15,7 @@ use Rattle.floats.specs.Values.{Alike, Number}
 use Rattle.floats.specs.Height.{mid, height}
 use Rattle.floats.proofs.Nan.{nan-is}
 use Rattle.floats.proofs.Laws.Signs.{neg-neg, lt-neg, le-neg}
-use Rattle.floats.proofs.Laws.Order.{le→≤, lt→<, nlt→≤, neg-nan, neg-number, lt-numbers}
+use Rattle.floats.proofs.Laws.Order.{le→≤, lt→<, nlt→≤, neg-nan, neg-number, lt-numbers, le-numbers, number}
 use Rattle.floats.proofs.Laws.Height.{height-top, height-neg, height-same}
 
 -- ---- picking by a key
@@ -31,17 +31,6 @@ module _ (K : Float → ℕ) (x y : Float) (inj : K x ≡ K y → x ≡ y) where
       go true false p q = refl
       go false true p q = refl
       go false false p q = absurd (omega (arith, leb-false (K x) (K y) p, leb-false (K y) (K x) q))
-
-least-assoc : (K : Float → ℕ) (x y z : Float) → least K (least K x y) z ≡ least K x (least K y z)
-least-assoc K x y z = go (leb (K x) (K y)) (leb (K y) (K z)) (leb (K x) (K z)) refl refl refl
-  where
-    go : (a b c : Bool) → leb (K x) (K y) ≡ a → leb (K y) (K z) ≡ b → leb (K x) (K z) ≡ c → least K (cond a x y) z ≡ least K x (cond b y z)
-    go true true true p q r = simp (p, r)
-    go true true false p q r = absurd (omega (arith, leb-true (K x) (K y) p, leb-true (K y) (K z) q, leb-false (K x) (K z) r))
-    go true false c p q r = refl
-    go false true c p q r = simp (p, q)
-    go false false true p q r = absurd (omega (arith, leb-false (K x) (K y) p, leb-false (K y) (K z) q, leb-true (K x) (K z) r))
-    go false false false p q r = simp (q, r)
 
 -- ---- the key: by height, and -0 below +0. A NaN is above all
 bit : Float → ℕ
@@ -90,9 +79,6 @@ min-key-same f x y p q h =
     let b = bit-le y in
     alike-signed x y (height-same f x y p q (omega (arith, h))) (same-bit x y (omega (arith, h)))
 
-number : (f : Format) (x : Float) → T (fits f x) → isNan x ≡ false → Number f x
-number f x p e = record { fit = p; no-nan = subst (λ (b : Bool). T (not b)) (sym e) tt }
-
 nan-height : (f : Format) (x : Float) → isNan x ≡ true → height f x ≡ suc (mid f + mid f)
 unfolding height
 nan-height f x e = ap (height f) (nan-is x e)
@@ -130,14 +116,6 @@ min-fits f x y p q = subst (λ (v : Float). T (fits f v)) (sym (min-is f x y p q
 
 pub min-comm-f : (f : Format) (x y : Float) → T (fits f x) → T (fits f y) → minimumNumber x y ≡ minimumNumber y x
 min-comm-f f x y p q = min-is f x y p q ∙ least-comm (minKey f) x y (min-key-same f x y p q) ∙ sym (min-is f y x q p)
-
-pub min-assoc-f : (f : Format) (x y z : Float) → T (fits f x) → T (fits f y) → T (fits f z) → minimumNumber (minimumNumber x y) z ≡ minimumNumber x (minimumNumber y z)
-min-assoc-f f x y z p q r =
-    min-is f (minimumNumber x y) z (min-fits f x y p q) r
-    ∙ ap (λ (v : Float). least (minKey f) v z) (min-is f x y p q)
-    ∙ least-assoc (minKey f) x y z
-    ∙ sym (ap (λ (v : Float). least (minKey f) x v) (min-is f y z q r))
-    ∙ sym (min-is f x (minimumNumber y z) p (min-fits f y z q r))
 
 -- one of the two operands, at the lower height. A NaN's height is above all others, so this holds for NaNs as well
 pub min-height : (f : Format) (x y : Float) → T (fits f x) → T (fits f y) → height f (minimumNumber x y) ≡ min (height f x) (height f y)
@@ -208,33 +186,12 @@ min-neg x y = simp (lt-neg, neg-nan) (go (isNan x) (isNan y) (lt y x) (lt x y) (
     go false false false false true u v = simp (neg-negative x u ∙ ap not v)
     go false false false false false u v = simp (neg-negative x u ∙ ap not v)
 
-pub max-neg : (x y : Float) → maximumNumber (neg x) (neg y) ≡ neg (minimumNumber x y)
-max-neg x y = sym (neg-neg (maximumNumber (neg x) (neg y))) ∙ ap neg (sym (min-neg (neg x) (neg y)) ∙ ap₂ minimumNumber (neg-neg x) (neg-neg y))
-
 -- ---- so max has min's laws
 pub max-is : (x y : Float) → maximumNumber x y ≡ neg (minimumNumber (neg x) (neg y))
 max-is x y = sym (neg-neg (maximumNumber x y)) ∙ ap neg (sym (min-neg x y))
 
 pub max-fits : (f : Format) (x y : Float) → T (fits f x) → T (fits f y) → T (fits f (maximumNumber x y))
 max-fits f x y p q = subst (λ (v : Float). T (fits f v)) (sym (max-is x y)) (neg-fits f (minimumNumber (neg x) (neg y)) (min-fits f (neg x) (neg y) (neg-fits f x p) (neg-fits f y q)))
-
-pub max-comm-f : (f : Format) (x y : Float) → T (fits f x) → T (fits f y) → maximumNumber x y ≡ maximumNumber y x
-max-comm-f f x y p q = max-is x y ∙ ap neg (min-comm-f f (neg x) (neg y) (neg-fits f x p) (neg-fits f y q)) ∙ sym (max-is y x)
-
-pub max-assoc-f : (f : Format) (x y z : Float) → T (fits f x) → T (fits f y) → T (fits f z) → maximumNumber (maximumNumber x y) z ≡ maximumNumber x (maximumNumber y z)
-max-assoc-f f x y z p q r =
-    max-is (maximumNumber x y) z
-    ∙ ap (λ (v : Float). neg (minimumNumber v (neg z))) (sym (min-neg x y))
-    ∙ ap neg (min-assoc-f f (neg x) (neg y) (neg z) (neg-fits f x p) (neg-fits f y q) (neg-fits f z r))
-    ∙ ap (λ (v : Float). neg (minimumNumber (neg x) v)) (min-neg y z)
-    ∙ sym (max-is x (maximumNumber y z))
-
-pub max-one : (x y : Float) → (maximumNumber x y ≡ x) ⊎ (maximumNumber x y ≡ y)
-max-one x y = go (min-one (neg x) (neg y))
-  where
-    go : (minimumNumber (neg x) (neg y) ≡ neg x) ⊎ (minimumNumber (neg x) (neg y) ≡ neg y) → (maximumNumber x y ≡ x) ⊎ (maximumNumber x y ≡ y)
-    go (inl e) = inl (max-is x y ∙ ap neg e ∙ neg-neg x)
-    go (inr e) = inr (max-is x y ∙ ap neg e ∙ neg-neg y)
 
 pub min-number : (f : Format) (x y : Float) → Number f x → Number f y → Number f (minimumNumber x y)
 min-number f x y p q = go (min-one x y)
@@ -250,17 +207,6 @@ max-height f x y p q =
     let N = min-number f (neg x) (neg y) P Q in
     ap (height f) (max-is x y)
     ∙ omega (arith, height-neg f (minimumNumber (neg x) (neg y)) (N .fit) (N .no-nan), min-height f (neg x) (neg y) (P .fit) (Q .fit), height-neg f x (p .fit) (p .no-nan), height-neg f y (q .fit) (q .no-nan), height-top f x (p .fit) (p .no-nan), height-top f y (q .fit) (q .no-nan))
-
--- what compares is no NaN
-pub le-numbers : (x y : Float) → le x y ≡ true → (isNan x ≡ false) × (isNan y ≡ false)
-unfolding le isNan
-le-numbers nan y h = absurd (subst T (sym h) tt)
-le-numbers (inf s) nan h = absurd (subst T (sym h) tt)
-le-numbers (inf s) (inf t) h = (refl, refl)
-le-numbers (inf s) (fin t n d) h = (refl, refl)
-le-numbers (fin s m e) nan h = absurd (subst T (sym h) tt)
-le-numbers (fin s m e) (inf t) h = (refl, refl)
-le-numbers (fin s m e) (fin t n d) h = (refl, refl)
 
 -- ---- clamp turns with the signs, whatever the bounds are
 pub clamp-turned : (f : Format) (x lo hi : Float) → T (fits f x) → T (fits f lo) → T (fits f hi) → clamp (neg x) (neg hi) (neg lo) ≡ neg (clamp x lo hi)

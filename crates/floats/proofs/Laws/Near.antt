@@ -14,7 +14,7 @@ use lib.Ieee.Fits.{nearest-le, kept-lt, two, two-le-pos}
 use lib.Ieee.Nearest.{closest, closest-mono, closest-same, nearest-ge}
 use lib.Ieee.Scale.{grid}
 use Rattle.floats.specs.Near.{near, spare, Near}
-use Rattle.floats.proofs.Comparing.{by-order}
+use Rattle.lists.proofs.Comparing.{by-order}
 
 -- ---- the fraction a / c, where that is w units
 pub grid-near : (f : Format) (a c w : ℕ) → 0 < c → a * 2 ^ low f ≡ w * c → grid f a c ≡ near f w

@@ -1,4 +1,4 @@
--- The order of the numbers of a format, where a number is a value that fits and is no NaN: tests of floats as facts about heights and back; `lt` and `le` are transitive, and of two numbers one is not above the other.
+-- The order of the numbers of a format, where a number is a value that fits and is no NaN: tests of floats as facts about heights and back; `le` is transitive, and of two numbers one is not above the other.
 -- Assumes nothing.
 use mathlib.Core.Path.{_≡_, refl, sym, ap, _∙_, subst}
 use mathlib.Core.Bool.{Bool, true, false, not}
@@ -9,6 +9,7 @@ use borrow.Author.Tests.{lt-ltb, le-ltb, ltb-true, ltb-false, le-leb, leb-true, 
 use lib.Dec.{T}
 use lib.Ieee.{Float, nan, inf, fin, Format, low, neg, lt, le, fits, isNan}
 use lib.Ieee.Fits.{neg-fits}
+use Rattle.lists.proofs.Bools.{fails}
 use Rattle.floats.specs.Values.{posZero, Number}
 use Rattle.floats.specs.Height.{mid, height}
 use Rattle.floats.proofs.Laws.Height.{height-lt, height-le}
@@ -34,9 +35,6 @@ module _ (f : Format) where
 
   pub ≤→le : (x y : Float) → Number f x → Number f y → height f x ≤ height f y → le x y ≡ true
   ≤→le x y p q h = height-le f x y (p .fit) (q .fit) (p .no-nan) (q .no-nan) ∙ le-leb (height f x) (height f y) h
-
-  pub lt-trans-f : (x y z : Float) → Number f x → Number f y → Number f z → lt x y ≡ true → lt y z ≡ true → lt x z ≡ true
-  lt-trans-f x y z p q r h k = <→lt x z p r (omega (arith, lt→< x y p q h, lt→< y z q r k))
 
   pub le-trans-f : (x y z : Float) → Number f x → Number f y → Number f z → le x y ≡ true → le y z ≡ true → le x z ≡ true
   le-trans-f x y z p q r h k = ≤→le x z p r (omega (arith, le→≤ x y p q h, le→≤ y z q r k))
@@ -76,3 +74,20 @@ lt-numbers (inf s) (fin t n d) h = (refl, refl)
 lt-numbers (fin s m e) nan h = absurd (subst T (sym h) tt)
 lt-numbers (fin s m e) (inf t) h = (refl, refl)
 lt-numbers (fin s m e) (fin t n d) h = (refl, refl)
+
+pub le-numbers : (x y : Float) → le x y ≡ true → (isNan x ≡ false) × (isNan y ≡ false)
+unfolding le isNan
+le-numbers nan y h = absurd (subst T (sym h) tt)
+le-numbers (inf s) nan h = absurd (subst T (sym h) tt)
+le-numbers (inf s) (inf t) h = (refl, refl)
+le-numbers (inf s) (fin t n d) h = (refl, refl)
+le-numbers (fin s m e) nan h = absurd (subst T (sym h) tt)
+le-numbers (fin s m e) (inf t) h = (refl, refl)
+le-numbers (fin s m e) (fin t n d) h = (refl, refl)
+
+-- so with the format it is a number
+pub no-nan : (x : Float) → isNan x ≡ false → T (not (isNan x))
+no-nan x e = fails (isNan x) e
+
+pub number : (f : Format) (x : Float) → T (fits f x) → isNan x ≡ false → Number f x
+number f x p e = record { fit = p; no-nan = no-nan x e }

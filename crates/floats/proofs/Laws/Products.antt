@@ -2,13 +2,13 @@
 use mathlib.Core.Path.{_≡_, refl, sym, ap, ap₂, _∙_, subst}
 use mathlib.Core.Bool.{Bool, true, false, cond, true≢false}
 use Prim.Native.Nat.{ℕ, zero, suc, _+_, _-_, _*_, _^_, _≤_, _<_, min}
-use native.Mathlib.Nat.{lt-irrefl, le-trans, le-of-eq, lt-of-not-le, not-le-of-lt, le-of-suc-le-suc, mul-assoc, mul-comm, mul-left-comm, mul-mul-mul-comm, mul-le-mul-right, mul-one, one-mul, mul-pos, zero-mul, mul-zero, eq-of-mul-eq-mul-right}
+use native.Mathlib.Nat.{lt-irrefl, le-trans, le-of-eq, lt-of-not-le, not-le-of-lt, le-of-suc-le-suc, mul-assoc, mul-comm, mul-left-comm, mul-mul-mul-comm, mul-le-mul-right, mul-one, mul-pos, zero-mul, mul-zero, eq-of-mul-eq-mul-right}
 use native.Mathlib.Omega.{arith}
 use borrow.Author.Tests.{ne-eqb}
-use lib.IntN.{ℤ, pos}
+use lib.IntN.{ℤ}
 use lib.Dec.{T, ltb}
 use lib.Pow.{pow-pos}
-use lib.Ieee.{Float, nan, inf, fin, Format, prec, emax, low, unlike, up, down, odd, units, round, neg, mul, lt, le, fits}
+use lib.Ieee.{Float, nan, inf, fin, Format, prec, emax, low, unlike, up, down, odd, units, round, mul, lt, le, fits}
 use lib.Ieee.Fits.{round-is, round-fits, down-pos}
 use lib.Ieee.Bits.{is-true}
 use lib.Ieee.Exact.{HasValue}
@@ -18,7 +18,7 @@ use Rattle.floats.specs.Leaves.{negative}
 use Rattle.floats.specs.Values.{posZero, Number, Finite}
 use Rattle.floats.specs.Height.{mid, height, mag}
 use Rattle.floats.specs.Near.{near}
-use Rattle.floats.proofs.Laws.Signs.{mul-neg-left, round-neg, round-zero}
+use Rattle.floats.proofs.Laws.Signs.{round-neg, round-zero}
 use Rattle.floats.proofs.Laws.Height.{mag-below, mag-whole, height-neg, height-same, fin-height, scaled, gt-up}
 use Rattle.floats.proofs.Laws.Order.{le→≤, ≤→le, nlt→≤, posZero-number, posZero-height}
 use Rattle.floats.proofs.Laws.MinMax.{alike-signed}
@@ -78,24 +78,6 @@ mul-exact f s t m n k e d g p q r h =
     round-same f (unlike s t) (m * up e * (n * up d)) (down e * down d) (k * up g) (down g) (mul-pos (down-pos e) (down-pos d)) (down-pos g)
     (cancel (m * up e) (n * up d) (k * up g) (down e) (down d) (down g) (mag f m e) (mag f n d) (mag f k g) (2 ^ low f) (pow-pos (low f)) (mag-whole f s m e p) (mag-whole f t n d q) (mag-whole f (unlike s t) k g r) h)
     ∙ round-self f (unlike s t) k g r
-
--- times 1, and times -1
-like : (t : Bool) → unlike false t ≡ t
-like true = refl
-like false = refl
-
-pub one-times : (f : Format) (x : Float) → T (fits f x) → mul f (fin false 1 (pos 0)) x ≡ x
-unfolding mul
-one-times f nan p = refl
-one-times f (inf t) p = ap inf (like t)
-one-times f (fin t n d) p =
-    ap₂ (λ (a c : ℕ). round f (unlike false t) a c) (one-mul (n * up d)) (one-mul (down d)) ∙ ap (λ (b : Bool). round f b (n * up d) (down d)) (like t) ∙ round-self f t n d p
-
-pub minus-one-times : (f : Format) (x : Float) → T (fits f x) → mul f (fin true 1 (pos 0)) x ≡ neg x
-minus-one-times f x p = ap (λ (v : Float). mul f v x) (sym minus) ∙ mul-neg-left f (fin false 1 (pos 0)) x ∙ ap neg (one-times f x p)
-  where
-    minus : neg (fin false 1 (pos 0)) ≡ fin true 1 (pos 0)
-    minus = unfold neg in refl
 
 -- ---- a product grows with a factor
 pub round-number : (f : Format) (s : Bool) (a c : ℕ) → Number f (round f s a c)

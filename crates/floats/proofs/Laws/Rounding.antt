@@ -14,13 +14,12 @@ use lib.Ieee.{Float, nan, inf, fin, Format, binary32, prec, emax, low, up, down,
 use lib.Ieee.Fits.{two, round-is, add-fits, down-pos, neg-fits}
 use lib.Ieee.Exact.{HasValue, odd-sign}
 use lib.Ieee.Order.{kept, drop}
-use lib.Ieee.Scale
 use Rattle.floats.specs.Values.{Alike, Number, Finite}
 use Rattle.floats.specs.Height.{mid, height, mag}
 use Rattle.floats.specs.Near.{near, spare, Near, apart}
 use Rattle.floats.proofs.Laws.Signs.{le-neg, add-comm-f, sub-is-add}
 use Rattle.floats.proofs.Laws.Height.{mid-pos, mag-below, mag-whole, mag-shape, height-top, height-neg, height-same, fits-digits, fin-height, Scaled, lt-up, gt-up, eq-up}
-use Rattle.floats.proofs.Laws.Order.{le→≤, ≤→le, neg-number}
+use Rattle.floats.proofs.Laws.Order.{le→≤, ≤→le, neg-number, le-numbers, number}
 use Rattle.floats.proofs.Laws.Near.{grid-near, near-mono, near-exact, near-off, near-within}
 
 -- ---- w units above or below zero, capped at the infinities
@@ -293,6 +292,59 @@ unfolding sub
 sub-anti f x y y' p q r u v h =
     ap₂ le (add-comm-f f x (neg y')) (add-comm-f f x (neg y))
     ∙ add-mono f (neg y') (neg y) x (neg-number f y' r) (neg-number f y q) p (subst (λ (z : Float). T (not (isNan z))) (add-comm-f f x (neg y')) v) (subst (λ (z : Float). T (not (isNan z))) (add-comm-f f x (neg y)) u) (le-neg y y' ∙ h)
+
+-- with finite operands no NaN comes up: a sum grows with both of them
+pub add-grows : (f : Format) (x x' y y' : Float) → Finite f x → Finite f x' → Finite f y → Finite f y' → le x x' ≡ true → le y y' ≡ true → le (add f x y) (add f x' y') ≡ true
+add-grows f x x' y y' p p' q q' h k =
+    ≤→le f (add f x y) (add f x' y') (add-number f x y p q) (add-number f x' y' p' q')
+    (le-trans (le-of-eq (add-height f x y p q)) (le-trans (settle-mono f (height f x + height f y) (height f x' + height f y') more) (le-of-eq (sym (add-height f x' y' p' q')))))
+  where
+    more : height f x + height f y ≤ height f x' + height f y'
+    more = omega (arith, le→≤ f x x' (finite-number f x p) (finite-number f x' p') h, le→≤ f y y' (finite-number f y q) (finite-number f y' q') k)
+
+-- and a difference grows with the first and falls with the second
+pub sub-grows : (f : Format) (x x' y y' : Float) → Finite f x → Finite f x' → Finite f y → Finite f y' → le x x' ≡ true → le y' y ≡ true → le (sub f x y) (sub f x' y') ≡ true
+sub-grows f x x' y y' p p' q q' h k =
+    ap₂ le (sub-is-add f x y) (sub-is-add f x' y') ∙ add-grows f x x' (neg y) (neg y') p p' (neg-finite f y q) (neg-finite f y' q') h (le-neg y' y ∙ k)
+
+-- ---- a finite value and an infinity
+pub add-to-inf : (f : Format) (x : Float) (t : Bool) → Finite f x → add f x (inf t) ≡ inf t
+add-to-inf f x t p = add-comm-f f x (inf t) ∙ add-inf-left f t x p
+
+pub sub-to-inf : (f : Format) (x : Float) → Finite f x → sub f x (inf false) ≡ inf true
+unfolding sub neg
+sub-to-inf f x p = add-to-inf f x true p
+
+inf-number : (f : Format) (t : Bool) → Number f (inf t)
+unfolding fits isNan
+inf-number f t = record { fit = tt; no-nan = tt }
+
+-- so the sum of a finite value and any number is a number
+pub any-sum : (f : Format) (x y : Float) → Finite f x → Number f y → Number f (add f x y)
+any-sum f x y p q = go (kind f y q)
+  where
+    to-inf : (t : Bool) → y ≡ inf t → Number f (add f x y)
+    to-inf t e = subst (λ (v : Float). Number f v) (sym (ap (add f x) e ∙ add-to-inf f x t p)) (inf-number f t)
+
+    go : Kind f y → Number f (add f x y)
+    go (bottom e) = to-inf true e
+    go (peak e) = to-inf false e
+    go (inside k) = add-number f x y p k
+
+pub any-difference : (f : Format) (x y : Float) → Finite f x → Number f y → Number f (sub f x y)
+any-difference f x y p q = subst (λ (v : Float). Number f v) (sym (sub-is-add f x y)) (any-sum f x (neg y) p (neg-number f y q))
+
+-- what lies between finite values is finite
+pub finite-between : (f : Format) (lo v hi : Float) → Finite f lo → T (fits f v) → Finite f hi → le lo v ≡ true → le v hi ≡ true → Finite f v
+finite-between f lo v hi p q r l h = go (kind f v n)
+  where
+    n : Number f v
+    n = number f v q (le-numbers lo v l .1)
+
+    go : Kind f v → Finite f v
+    go (bottom e) = absurd (omega (arith, finite-range f lo p .0, le→≤ f lo v (finite-number f lo p) n l, ap (height f) e, deep f))
+    go (peak e) = absurd (omega (arith, finite-range f hi r .1, le→≤ f v hi n (finite-number f hi r) h, ap (height f) e, high f))
+    go (inside k) = k
 
 -- ---- sums that are exact, and how far others are off
 pub mag-exact : (f : Format) (s : Bool) (m : ℕ) (e : ℤ) → T (fits f (fin s m e)) → near f (mag f m e) ≡ mag f m e

@@ -1,7 +1,7 @@
 -- Laws of signs: what the operations do when an operand, or each of them, changes its sign. Nothing is asked of the operands, in either format.
 -- A sum that is exactly zero keeps its sign when both operands change theirs, so there the law is `Alike`: equal, or both of them zeros. Assumes nothing.
 use mathlib.Core.Path.{_≡_, refl, sym, ap, ap₂, _∙_, subst}
-use mathlib.Core.Logic.{_⊎_, inl, inr}
+use mathlib.Core.Logic.{inl, inr}
 use mathlib.Core.Bool.{Bool, true, false, not, _&&_, _||_, Bool·beq, cond}
 use Prim.Native.Nat.{ℕ, zero, suc, _+_, _-_, _*_, _/_, _^_, _<_}
 use native.Mathlib.Nat.{le-antisymm, mul-comm, mul-pos, add-comm, sub-self, zero-mul, zero-div, eq-of-mul-eq-mul-right}
@@ -10,12 +10,11 @@ use borrow.Author.Tests.{ltb-true, ltb-false, eqb-true, eqb-false, eq-eqb, ne-eq
 use lib.IntN.{ℤ, pos}
 use lib.Dec.{T, ltb, eqb}
 use lib.Pow.{pow-pos}
-use lib.Ieee.{Float, nan, inf, fin, Format, binary32, prec, emax, low, unlike, up, down, size, odd, units, round, neg, sum, add, sub, mul, lt, eq, le, below, level, toBits, ofBits, fits, isNan, top, hid}
+use lib.Ieee.{Float, nan, inf, fin, Format, prec, emax, low, unlike, up, down, size, odd, units, round, neg, sum, add, sub, mul, lt, eq, le, below, level, toBits, ofBits, fits, isNan, top, hid}
 use lib.Ieee.Bits.{ofBits-toBits}
 use lib.Ieee.Fits.{round-is, round-fits, down-pos}
 use lib.Ieee.Exact.{HasValue, round-exact}
 use Rattle.floats.specs.Leaves.{negative, withSign, abs, copysign}
-use Rattle.floats.specs.Hypot.{hypot, nearestRoot, magnitude}
 use Rattle.floats.specs.Values.{posZero, Alike}
 
 -- ---- neg
@@ -251,49 +250,6 @@ pub sub-neg-neg : (f : Format) (x y : Float) → Alike (sub f (neg x) (neg y)) (
 unfolding sub
 sub-neg-neg f x y = add-neg-neg f x (neg y)
 
--- ---- hypot: signs do not matter, and the operands may change places
-pub hypot-neg-left : (x y : Float) → hypot (neg x) y ≡ hypot x y
-unfolding hypot neg
-hypot-neg-left nan nan = refl
-hypot-neg-left nan (inf t) = refl
-hypot-neg-left nan (fin t n d) = refl
-hypot-neg-left (inf s) y = refl
-hypot-neg-left (fin s m e) nan = refl
-hypot-neg-left (fin s m e) (inf t) = refl
-hypot-neg-left (fin s m e) (fin t n d) = refl
-
-pub hypot-comm : (x y : Float) → hypot x y ≡ hypot y x
-unfolding hypot
-hypot-comm nan nan = refl
-hypot-comm nan (inf t) = refl
-hypot-comm nan (fin t n d) = refl
-hypot-comm (inf s) nan = refl
-hypot-comm (inf s) (inf t) = refl
-hypot-comm (inf s) (fin t n d) = refl
-hypot-comm (fin s m e) nan = refl
-hypot-comm (fin s m e) (inf t) = refl
-hypot-comm (fin s m e) (fin t n d) = ap (λ (z : ℕ). ofBits binary32 (nearestRoot z)) (add-comm (magnitude m e * magnitude m e) (magnitude n d * magnitude n d))
-
-pub hypot-neg-right : (x y : Float) → hypot x (neg y) ≡ hypot x y
-hypot-neg-right x y = hypot-comm x (neg y) ∙ hypot-neg-left y x ∙ hypot-comm y x
-
--- so only the magnitudes matter
-pub hypot-abs-left : (x y : Float) → hypot (abs x) y ≡ hypot x y
-unfolding hypot withSign
-hypot-abs-left nan nan = refl
-hypot-abs-left nan (inf t) = refl
-hypot-abs-left nan (fin t n d) = refl
-hypot-abs-left (inf s) y = refl
-hypot-abs-left (fin s m e) nan = refl
-hypot-abs-left (fin s m e) (inf t) = refl
-hypot-abs-left (fin s m e) (fin t n d) = refl
-
-pub hypot-abs : (x y : Float) → hypot (abs x) (abs y) ≡ hypot x y
-hypot-abs x y = hypot-abs-left x (abs y) ∙ hypot-comm x (abs y) ∙ hypot-abs-left y x ∙ hypot-comm y x
-
-pub hypot-alike : (x x' y y' : Float) → Alike x x' → Alike y y' → hypot x y ≡ hypot x' y'
-hypot-alike x x' y y' h k = sym (hypot-abs x y) ∙ ap₂ hypot (alike-abs x x' h) (alike-abs y y' k) ∙ hypot-abs x' y'
-
 -- ---- copysign, and comparison
 pub copysign-neg : (x y : Float) → T (not (isNan y)) → copysign x (neg y) ≡ neg (copysign x y)
 unfolding isNan neg negative withSign
@@ -360,15 +316,6 @@ pub le-neg : (x y : Float) → le (neg y) (neg x) ≡ le x y
 unfolding le
 le-neg x y = ap₂ (λ (a b : Bool). a || b) (lt-neg x y) (eq-neg x y)
 
--- ---- distances of turned and of mirrored points
+-- ---- the difference of two values that both change their sign
 pub abs-sub-turned : (f : Format) (a b : Float) → abs (sub f (neg a) (neg b)) ≡ abs (sub f a b)
 abs-sub-turned f a b = alike-abs (sub f (neg a) (neg b)) (neg (sub f a b)) (sub-neg-neg f a b) ∙ abs-neg (sub f a b)
-
-pub hypot-by-abs : (x x' y y' : Float) → abs x ≡ abs x' → abs y ≡ abs y' → hypot x y ≡ hypot x' y'
-hypot-by-abs x x' y y' h k = sym (hypot-abs x y) ∙ ap₂ hypot h k ∙ hypot-abs x' y'
-
-pub distance-turned : (f : Format) (a b c d : Float) → hypot (sub f (neg a) (neg b)) (sub f (neg c) (neg d)) ≡ hypot (sub f a b) (sub f c d)
-distance-turned f a b c d = hypot-by-abs (sub f (neg a) (neg b)) (sub f a b) (sub f (neg c) (neg d)) (sub f c d) (abs-sub-turned f a b) (abs-sub-turned f c d)
-
-pub distance-mirrored : (f : Format) (x c d : Float) → hypot x (sub f (neg c) (neg d)) ≡ hypot x (sub f c d)
-distance-mirrored f x c d = hypot-by-abs x x (sub f (neg c) (neg d)) (sub f c d) refl (abs-sub-turned f c d)

@@ -1,11 +1,11 @@
 use borrow.Author.Needs.{needs}
 use mathlib.Core.Path.{sym}
-use Rattle.floats.proofs.Nan.{nan-pattern, no-nan}
+use Rattle.floats.proofs.Nan.{nan-pattern, not-unequal}
 use Rattle.floats.proofs.bits.Statement.{statement}
 use Rattle.floats.proofs.bits.Tie as tie
 
 float-to-bits-result : tie.Need-float-to-bits-result
-float-to-bits-result c = no-nan (c .before .args .x) (c .if1 .left)
+float-to-bits-result c = not-unequal (c .before .args .x) (c .if1 .left)
 
 returns : tie.Need-returns
 returns c = sym (nan-pattern (c .before .args .x) (c .if1 .taken))

@@ -1,7 +1,5 @@
 use borrow.Author.Needs.{needs}
-use mathlib.Core.Path.{_≡_, sym, ap, _∙_}
-use mathlib.Core.Bool.{Bool, cond}
-use lib.Ieee.{Float, ofBits, binary32, add, rem}
+use lib.Ieee.{ofBits}
 use Rattle.floats.specs.Leaves.{remEuclid}
 use Rattle.floats.proofs.rem_euclid.Statement.{statement}
 use Rattle.floats.proofs.rem_euclid.Tie as tie

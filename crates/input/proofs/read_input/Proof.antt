@@ -13,11 +13,8 @@ read-numbers-requires c κs = search needs
 enum-known-reading : tie.Need-enum-known-reading
 enum-known-reading c = search needs
 
-words-read-requires : tie.Need-words-read-requires
-words-read-requires c κs = search needs
-
-with-words-requires : tie.Need-with-words-requires
-with-words-requires c κs = search needs
+laid-out-requires : tie.Need-laid-out-requires
+laid-out-requires c κs = search needs
 
 enum-known-reading-2 : tie.Need-enum-known-reading-2
 enum-known-reading-2 c = search needs
@@ -27,11 +24,11 @@ enum-known-reading-3 c = search needs
 
 returns : tie.Need-returns
 returns c =
-    let told = c .before .before .before .before .before .before in
+    let told = c .before .before .before .before in
     let call = told .before .before in
     let start = call .before .before .before in
     let read = call .read-numbers in (
-      input-of-read (now (start .args .text)) (now (start .args .numbers)) _ _ _ _ (search needs) (sym (read .ensures .0) ∙ told .reading .given .1) (read .ensures .1) (c .before .before .words-read .ensures) (c .with-words .ensures),
+      input-of-read (now (start .args .text)) (now (start .args .numbers)) _ _ _ (search needs) (sym (read .ensures .0) ∙ told .reading .given .1) (read .ensures .1) (c .laid-out .ensures),
       read .ensures .1,
     )
 
@@ -53,8 +50,7 @@ read-input-spec =
     (tie.spec
     read-numbers-requires
     enum-known-reading
-    words-read-requires
-    with-words-requires
+    laid-out-requires
     enum-known-reading-2
     enum-known-reading-3
     returns

@@ -1,21 +1,16 @@
 -- With the columns from c on written, what is left of the number is that before the column c.
-use denote.Ref.{now}
-use mathlib.Core.Path.{_≡_, refl, sym, ap, _∙_}
-use Prim.Native.Nat.{ℕ, _≤_, _-_, _/_, _^_}
+use mathlib.Core.Path.{_≡_, refl, sym, _∙_}
+use Prim.Native.Nat.{_≤_, _-_, _/_, _^_}
 use native.Mathlib.Nat.{div-one}
 use native.Mathlib.Omega.{arith}
 use borrow.Author.Needs.{needs}
-use lib.ListN.{length, length-set, drop}
+use lib.ListN.{length, length-set}
 use Rattle.lists.specs.Put.{fronted}
-use Rattle.lists.proofs.Table.{length-table}
 use Rattle.lines.specs.Line.{columnByte, columnsOf}
 use Rattle.lines.proofs.Back.{backed, back-none, back-turn, back-done}
 use Rattle.lines.proofs.Digits.{column-told, rest-turn}
 use Rattle.lines.proofs.columns.Statement.{statement}
 use Rattle.lines.proofs.columns.Tie as tie
-use Rattle.lines.proofs.columns.Reads as reads
-use Rattle.lines.proofs.columns.Lts as lts
-use Rattle.lines.proofs.column.Reads as column-reads
 
 abbrev Inv-loop : tie.InvT-loop
 Inv-loop part₀ v rest₀ c₀ part rest c = (c ≤ 11) × (length part ≡ length part₀) × (rest ≡ v / 10 ^ (11 - c)) × (part ≡ backed (columnByte v) 11 part₀ c)

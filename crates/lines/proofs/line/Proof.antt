@@ -1,13 +1,10 @@
-use denote.Ref.{now}
+-- Four numbers and a line feed, one after the other, are the line.
 use borrow.Author.Needs.{needs}
 use mathlib.Core.Path.{sym, _∙_}
 use lib.ListN.{length-set}
 use Rattle.lines.proofs.Lines.{line-short, line-told}
 use Rattle.lines.proofs.line.Statement.{statement}
 use Rattle.lines.proofs.line.Tie as tie
-use Rattle.lines.proofs.line.Reads as reads
-use Rattle.lines.proofs.line.Lts as lts
-use Rattle.lines.proofs.columns_at.Reads as columns-at-reads
 
 returns : tie.Need-returns
 returns c = sym (line-short _ _ (c .if1 .taken))

@@ -10,7 +10,7 @@ use Rattle.game.specs.declared.PlayerList.{PlayerList}
 use Rattle.game.specs.declared.Team.{Team}
 use Rattle.game.proofs.Listing.{numbers-flagged}
 use Rattle.motion.specs.Motion.{hasMoved, movedPlayers, movedFlags, referenceUnless, referenceAfter, referencesAfter, referencesUnless}
-use Rattle.motion.specs.declared.PlayerReference.{PlayerReference}
+use Rattle.game.specs.declared.PlayerReference.{PlayerReference}
 use Rattle.motion.proofs.check_motion.Statement.{statement}
 use Rattle.motion.proofs.check_motion.Tie as tie
 

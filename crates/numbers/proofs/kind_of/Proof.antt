@@ -1,7 +1,7 @@
 -- By the tests that led to each return.
 use borrow.Author.Tests.{leb-true}
 use borrow.Author.Needs.{needs}
-use Rattle.lists.proofs.Every.{both-true}
+use Rattle.lists.proofs.Bools.{both-true}
 use Rattle.numbers.specs.Walk.{kindOf}
 use Rattle.numbers.proofs.kind_of.Statement.{statement}
 use Rattle.numbers.proofs.kind_of.Tie as tie

@@ -1,6 +1,6 @@
 use denote.Ref.{now}
-use mathlib.Core.Path.{_≡_, ap, sym, _∙_}
-use Prim.Native.Nat.{ℕ, _<_, _≤_}
+use mathlib.Core.Path.{ap, _∙_}
+use Prim.Native.Nat.{_<_}
 use native.Mathlib.Omega.{arith}
 use lib.ListN.{length}
 use mir.Syntax.{w64}
@@ -25,9 +25,10 @@ same-length : tie.Need-same-length
 same-length c = search needs
 
 returns : tie.Need-returns
-returns c = let s = c .before .before .before .before .before .before .before .before in
-    let a = s .args in
-    let call = c .before .before .before .before .before .fill-candidates in (
+returns c =
+    let filled = c .before .before .before .before .before in
+    let a = filled .before .before .before .args in
+    let call = filled .fill-candidates in (
       toZ-ofZ w64 (c .minus .result) (search needs)
           ∙ c .minus .ensures
           ∙ ap minus (c .before .candidates-refusal .ensures)

@@ -1,11 +1,11 @@
-use mathlib.Core.Path.{_≡_, ap, sym, subst, _∙_}
+use mathlib.Core.Path.{sym, subst, _∙_}
 use Prim.Native.Nat.{_≤_}
 use native.Mathlib.Omega.{arith}
 use mir.Syntax.{w64}
 use mir.ValLaws.{toZ-ofZ}
 use Rattle.sheet.specs.Sheet.{bytesIn}
 use Rattle.sheet.specs.declared.text.SheetAnswer.{SheetAnswer}
-use Rattle.sheet.proofs.Answers.{sheet-room}
+use Rattle.call.proofs.Answers.{sheet-room}
 use Rattle.referee_c.proofs.EntryLaws.{a-situation, no-situation}
 use denote.Ref.{now}
 use Prim.Native.Nat.{_<_}
@@ -28,8 +28,9 @@ room c = search needs
 
 answer-number-requires : tie.Need-answer-number-requires
 answer-number-requires c κs =
-    let s = c .before .before .before .before .before .before .before .before .before .before .before in
-    let call = c .before .before .write-sheet in
+    let written = c .before .before in
+    let s = written .before .before .before .before .before .before .before .before .before in
+    let call = written .write-sheet in
     let told : bytesIn (call .result) ≤ length (now (s .args .sheet)) = subst (λ (a : SheetAnswer). bytesIn a ≤ length (now (s .args .sheet))) (sym (call .ensures .0)) (sheet-room _ _ _ _) in
     omega (arith, told, room s)
 
@@ -38,10 +39,13 @@ same-length c = search needs
 
 returns : tie.Need-returns
 returns c =
-    let s = c .before .before .before .before .before .before .before .before .before .before .before .before in
-    let call = c .before .before .before .write-sheet in
-    let told = a-situation (now (s .args .words)) (now (s .args .xs)) (now (s .args .ys)) (now (s .args .sheet)) _ (call .result) _ (sym (c .before .before .before .before .before .before .before .is-situation .ensures) ∙ c .before .before .before .before .before .before .if1 .taken)
-    (c .before .before .before .before .before .situation-of .ensures) (call .ensures .0) (call .ensures .1) in
+    let written = c .before .before .before in
+    let known = written .before .before in
+    let tested = known .before in
+    let a = tested .before .before .before .before .before .before .args in
+    let call = written .write-sheet in
+    let told = a-situation (now (a .words)) (now (a .xs)) (now (a .ys)) (now (a .sheet)) _ (call .result) _ (sym (tested .before .is-situation .ensures) ∙ tested .if1 .taken)
+    (known .situation-of .ensures) (call .ensures .0) (call .ensures .1) in
     (toZ-ofZ w64 (c .answer-number .result) (search needs) ∙ c .answer-number .ensures ∙ told .0, told .1)
 
 minus-requires : tie.Need-minus-requires

@@ -1,7 +1,8 @@
 -- The loop's answer so far is that of the places passed.
 use borrow.Author.Needs.{needs}
-use Prim.Native.Nat.{ℕ, _≤_, _-_}
-use mathlib.Core.Path.{_≡_}
+use Prim.Native.Nat.{_≤_, _-_}
+use mathlib.Core.Path.{_≡_, ap}
+use mathlib.Core.Bool.{Bool, _&&_}
 use lib.ListN.{length, getD}
 use lib.Ieee.{nan}
 use Rattle.refusals.specs.Refusals.{isCoordinate, placesFit}
@@ -19,8 +20,14 @@ abbrev μ-loop : tie.MeasureT-loop
 loop-holds : tie.Need-loop-holds Inv-loop μ-loop
 loop-holds c = (search needs, every-none _)
 
-places-fit-more-requires : tie.Need-places-fit-more-requires Inv-loop μ-loop
-places-fit-more-requires c κs = search needs
+mul-is-coordinate : tie.Need-mul-is-coordinate Inv-loop μ-loop
+mul-is-coordinate c = search needs
+
+shared-slice-read-is-coordinate : tie.Need-shared-slice-read-is-coordinate Inv-loop μ-loop
+shared-slice-read-is-coordinate c = search needs
+
+is-coordinate-requires : tie.Need-is-coordinate-requires Inv-loop μ-loop
+is-coordinate-requires c κs = search needs
 
 add-i : tie.Need-add-i Inv-loop μ-loop
 add-i c = search needs
@@ -29,7 +36,9 @@ loop-less : tie.Need-loop-less Inv-loop μ-loop
 loop-less c = search needs
 
 loop-again : tie.Need-loop-again Inv-loop μ-loop
-loop-again c = (search needs, every-turn _ _ _ _ (c .before .before .loop .inv .1) (c .places-fit-more .ensures))
+loop-again c =
+    let at = c .before .before .before in
+    (search needs, every-turn _ _ _ _ (at .loop .inv .1) (ap (λ (b : Bool). at .loop .ok && b) (c .is-coordinate .ensures)))
 
 returns : tie.Need-returns Inv-loop μ-loop
 unfolding placesFit
@@ -42,7 +51,9 @@ places-fit-spec =
     Inv-loop
     μ-loop
     loop-holds
-    places-fit-more-requires
+    mul-is-coordinate
+    shared-slice-read-is-coordinate
+    is-coordinate-requires
     add-i
     loop-less
     loop-again

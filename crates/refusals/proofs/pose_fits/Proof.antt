@@ -1,5 +1,5 @@
-use Rattle.refusals.specs.Refusals.{poseFits}
 use borrow.Author.Needs.{needs}
+use Rattle.refusals.specs.Refusals.{poseFits}
 use Rattle.refusals.proofs.pose_fits.Statement.{statement}
 use Rattle.refusals.proofs.pose_fits.Tie as tie
 
@@ -12,19 +12,9 @@ is-coordinate-requires-2 c κs = search needs
 is-coordinate-requires-3 : tie.Need-is-coordinate-requires-3
 is-coordinate-requires-3 c κs = search needs
 
-is-radius-requires : tie.Need-is-radius-requires
-is-radius-requires c κs = search needs
-
 returns : tie.Need-returns
 unfolding poseFits
 returns c = cc
 
 pub pose-fits-spec : {M : Type 1} → statement M
-pose-fits-spec =
-    tie.close
-    (tie.spec
-    is-coordinate-requires
-    is-coordinate-requires-2
-    is-coordinate-requires-3
-    is-radius-requires
-    returns)
+pose-fits-spec = tie.close (tie.spec is-coordinate-requires is-coordinate-requires-2 is-coordinate-requires-3 returns)

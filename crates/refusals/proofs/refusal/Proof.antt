@@ -1,7 +1,29 @@
-use Rattle.refusals.specs.Refusals.{refusalOf}
+-- The five tests from the parts that the calls tell.
 use borrow.Author.Needs.{needs}
+use mathlib.Core.Path.{_≡_, ap₂, _∙_}
+use mathlib.Core.Bool.{Bool, _&&_}
+use mathlib.Core.List.{List}
+use Prim.Native.Nat.{ℕ}
+use lib.Ieee.{Float}
+use Rattle.lists.specs.Refusals.{firstRefusal}
+use Rattle.game.specs.declared.Situation.{Situation}
+use Rattle.refusals.specs.Refusals.{conditionsOf, fieldFits, posesFit, isCoordinate, numberFits, restartFits, wishFits, numbersFit, distanceFits, five, refusalOf}
 use Rattle.refusals.proofs.refusal.Statement.{statement}
 use Rattle.refusals.proofs.refusal.Tie as tie
+
+and-both : {a b x y : Bool} → a ≡ x → b ≡ y → (a && b) ≡ (x && y)
+and-both p q = ap₂ (λ (u v : Bool). u && v) p q
+
+told : (s : Situation) (xs ys : List Float) (a b x y z h w k l : Bool) (r : ℕ) → a ≡ fieldFits (s .field) → b ≡ posesFit (s .home) (s .away) xs ys
+    → x ≡ isCoordinate (s .ball .x) → y ≡ isCoordinate (s .ball .y) → z ≡ isCoordinate (s .ball .z)
+    → h ≡ numberFits (s .home .goalkeeper) → w ≡ numberFits (s .away .goalkeeper) → k ≡ restartFits (s .restart) → l ≡ wishFits (s .wish)
+    → r ≡ firstRefusal (five a b (x && y && z) (h && w && k && l) (distanceFits (s .«penalty_placement_distance»))) → r ≡ refusalOf s xs ys
+unfolding refusalOf conditionsOf numbersFit
+told s xs ys a b x y z h w k l r ea eb ex ey ez eh ew ek el e =
+    e
+    ∙ ap₂ (λ (u v : Bool). firstRefusal (five u v (x && y && z) (h && w && k && l) (distanceFits (s .«penalty_placement_distance»)))) ea eb
+    ∙ ap₂ (λ (u v : Bool). firstRefusal (five (fieldFits (s .field)) (posesFit (s .home) (s .away) xs ys) u v (distanceFits (s .«penalty_placement_distance»))))
+    (and-both (and-both ex ey) ez) (and-both (and-both (and-both eh ew) ek) el)
 
 field-fits-requires : tie.Need-field-fits-requires
 field-fits-requires c κs = search needs
@@ -9,30 +31,40 @@ field-fits-requires c κs = search needs
 poses-fit-requires : tie.Need-poses-fit-requires
 poses-fit-requires c κs = search needs
 
-ball-fits-requires : tie.Need-ball-fits-requires
-ball-fits-requires c κs = search needs
+is-coordinate-requires : tie.Need-is-coordinate-requires
+is-coordinate-requires c κs = search needs
 
-numbers-fit-requires : tie.Need-numbers-fit-requires
-numbers-fit-requires c κs = search needs
+is-coordinate-requires-2 : tie.Need-is-coordinate-requires-2
+is-coordinate-requires-2 c κs = search needs
 
-distance-fits-requires : tie.Need-distance-fits-requires
-distance-fits-requires c κs = search needs
+is-coordinate-requires-3 : tie.Need-is-coordinate-requires-3
+is-coordinate-requires-3 c κs = search needs
+
+number-fits-requires : tie.Need-number-fits-requires
+number-fits-requires c κs = search needs
+
+number-fits-requires-2 : tie.Need-number-fits-requires-2
+number-fits-requires-2 c κs = search needs
+
+restart-fits-requires : tie.Need-restart-fits-requires
+restart-fits-requires c κs = search needs
+
+wish-fits-requires : tie.Need-wish-fits-requires
+wish-fits-requires c κs = search needs
 
 first-failing-requires : tie.Need-first-failing-requires
 first-failing-requires c κs = search needs
 
 returns : tie.Need-returns
-unfolding refusalOf
-returns c = cc
+returns c =
+    let at-restart-fits = c .before .before in
+    let at-number-fits2 = at-restart-fits .before in
+    let at-number-fits = at-number-fits2 .before in
+    let at-is-coordinate3 = at-number-fits .before in
+    let at-is-coordinate2 = at-is-coordinate3 .before in
+    let at-is-coordinate = at-is-coordinate2 .before in
+    let at-poses-fit = at-is-coordinate .before in
+    told _ _ _ _ _ _ _ _ _ _ _ _ _ (at-poses-fit .before .field-fits .ensures) (at-poses-fit .poses-fit .ensures) (at-is-coordinate .is-coordinate .ensures) (at-is-coordinate2 .is-coordinate2 .ensures) (at-is-coordinate3 .is-coordinate3 .ensures) (at-number-fits .number-fits .ensures) (at-number-fits2 .number-fits2 .ensures) (at-restart-fits .restart-fits .ensures) (c .before .wish-fits .ensures) (c .first-failing .ensures)
 
 pub refusal-spec : {M : Type 1} → statement M
-refusal-spec =
-    tie.close
-    (tie.spec
-    field-fits-requires
-    poses-fit-requires
-    ball-fits-requires
-    numbers-fit-requires
-    distance-fits-requires
-    first-failing-requires
-    returns)
+refusal-spec = tie.close (tie.spec field-fits-requires poses-fit-requires is-coordinate-requires is-coordinate-requires-2 is-coordinate-requires-3 number-fits-requires number-fits-requires-2 restart-fits-requires wish-fits-requires first-failing-requires returns)

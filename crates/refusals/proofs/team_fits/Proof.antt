@@ -1,7 +1,8 @@
 -- The loop's answer so far is that of the places passed.
 use borrow.Author.Needs.{needs}
 use Prim.Native.Nat.{_≤_, _-_}
-use mathlib.Core.Path.{_≡_}
+use mathlib.Core.Path.{_≡_, ap}
+use mathlib.Core.Bool.{Bool, _&&_}
 use lib.ListN.{getD}
 use Rattle.game.specs.Players.{nobody}
 use Rattle.refusals.specs.Refusals.{playerFits, teamFits}
@@ -25,8 +26,8 @@ mul-player c = search needs
 array-copy-out-player : tie.Need-array-copy-out-player Inv-loop μ-loop
 array-copy-out-player c = search needs
 
-players-fit-more-requires : tie.Need-players-fit-more-requires Inv-loop μ-loop
-players-fit-more-requires c κs = search needs
+player-fits-requires : tie.Need-player-fits-requires Inv-loop μ-loop
+player-fits-requires c κs = search needs
 
 add-i : tie.Need-add-i Inv-loop μ-loop
 add-i c = search needs
@@ -35,7 +36,9 @@ loop-less : tie.Need-loop-less Inv-loop μ-loop
 loop-less c = search needs
 
 loop-again : tie.Need-loop-again Inv-loop μ-loop
-loop-again c = (search needs, every-turn _ _ _ _ (c .before .before .before .loop .inv .1) (c .players-fit-more .ensures))
+loop-again c =
+    let at = c .before .before .before in
+    (search needs, every-turn _ _ _ _ (at .loop .inv .1) (ap (λ (b : Bool). at .loop .ok && b) (c .player-fits .ensures)))
 
 returns : tie.Need-returns Inv-loop μ-loop
 unfolding teamFits
@@ -50,7 +53,7 @@ team-fits-spec =
     loop-holds
     mul-player
     array-copy-out-player
-    players-fit-more-requires
+    player-fits-requires
     add-i
     loop-less
     loop-again

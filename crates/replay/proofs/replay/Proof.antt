@@ -1,17 +1,21 @@
--- `replay::replay` runs without fault. The measure is how many records are left to read. Assumes nothing.
-use Prim.Native.Nat.{_≤_}
+-- `replay::replay` runs without fault: the buffer keeps its length. The measure is how many records are left to read. Assumes nothing.
+use mathlib.Core.Path.{_≡_}
 use borrow.Author.Needs.{needs}
+use lib.ListN.{length}
 use Rattle.replay.proofs.replay.Statement.{statement}
 use Rattle.replay.proofs.replay.Tie as tie
 
 abbrev Inv-loop : tie.InvT-loop
-Inv-loop t₀ left₀ t left = 0 ≤ left
+Inv-loop buffer₀ t₀ left₀ buffer t left = length buffer ≡ length buffer₀
 
 abbrev μ-loop : tie.MeasureT-loop
-μ-loop t₀ left₀ t left = left
+μ-loop buffer₀ t₀ left₀ buffer t left = left
 
 loop-holds : tie.Need-loop-holds Inv-loop μ-loop
 loop-holds c = search needs
+
+same-length : tie.Need-same-length Inv-loop μ-loop
+same-length c = search needs
 
 returns : tie.Need-returns Inv-loop μ-loop
 returns c = search needs
@@ -31,6 +35,9 @@ loop-less c = search needs
 loop-again : tie.Need-loop-again Inv-loop μ-loop
 loop-again c = search needs
 
+same-length-2 : tie.Need-same-length-2 Inv-loop μ-loop
+same-length-2 c = search needs
+
 returns-2 : tie.Need-returns-2 Inv-loop μ-loop
 returns-2 c = search needs
 
@@ -41,10 +48,12 @@ replay-spec =
     Inv-loop
     μ-loop
     loop-holds
+    same-length
     returns
     next-requires
     counted-requires
     sub-left
     loop-less
     loop-again
+    same-length-2
     returns-2)

@@ -1,3 +1,4 @@
+-- Five pieces, each where the one before it ended, are the line.
 use denote.Ref.{now}
 use mathlib.Core.Path.{_∙_}
 use Prim.Native.Nat.{_≤_}

@@ -48,20 +48,33 @@ float-at-requires-14 c κs = search needs
 returns : tie.Need-returns
 unfolding fieldOf
 returns c =
+    let c1 = c .before in
+    let c2 = c1 .before in
+    let c3 = c2 .before in
+    let c4 = c3 .before in
+    let c5 = c4 .before in
+    let c6 = c5 .before in
+    let c7 = c6 .before in
+    let c8 = c7 .before in
+    let c9 = c8 .before in
+    let c10 = c9 .before in
+    let c11 = c10 .before in
+    let c12 = c11 .before in
+    let c13 = c12 .before in
     simp (
-      c .before .before .before .before .before .before .before .before .before .before .before .before .before .float-at .ensures,
-      c .before .before .before .before .before .before .before .before .before .before .before .before .float-at2 .ensures,
-      c .before .before .before .before .before .before .before .before .before .before .before .float-at3 .ensures,
-      c .before .before .before .before .before .before .before .before .before .before .float-at4 .ensures,
-      c .before .before .before .before .before .before .before .before .before .float-at5 .ensures,
-      c .before .before .before .before .before .before .before .before .float-at6 .ensures,
-      c .before .before .before .before .before .before .before .float-at7 .ensures,
-      c .before .before .before .before .before .before .float-at8 .ensures,
-      c .before .before .before .before .before .float-at9 .ensures,
-      c .before .before .before .before .float-at10 .ensures,
-      c .before .before .before .float-at11 .ensures,
-      c .before .before .float-at12 .ensures,
-      c .before .float-at13 .ensures,
+      c13 .float-at .ensures,
+      c12 .float-at2 .ensures,
+      c11 .float-at3 .ensures,
+      c10 .float-at4 .ensures,
+      c9 .float-at5 .ensures,
+      c8 .float-at6 .ensures,
+      c7 .float-at7 .ensures,
+      c6 .float-at8 .ensures,
+      c5 .float-at9 .ensures,
+      c4 .float-at10 .ensures,
+      c3 .float-at11 .ensures,
+      c2 .float-at12 .ensures,
+      c1 .float-at13 .ensures,
       c .float-at14 .ensures,
     )
 

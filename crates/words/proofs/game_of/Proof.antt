@@ -38,20 +38,7 @@ maybe-side-of-requires c κs = search needs
 
 returns : tie.Need-returns
 unfolding gameOf
-returns c =
-    simp (
-      c .before .before .before .before .before .before .before .before .before .before .word-at .ensures,
-      c .before .before .before .before .before .before .before .before .before .sides-of .ensures,
-      c .before .before .before .before .before .before .before .before .flag-at .ensures,
-      c .before .before .before .before .before .before .before .word-at2 .ensures,
-      c .before .before .before .before .before .before .phase-of .ensures,
-      c .before .before .before .before .before .word-at3 .ensures,
-      c .before .before .before .before .state-of .ensures,
-      c .before .before .before .word-at4 .ensures,
-      c .before .before .set-play-of .ensures,
-      c .before .word-at5 .ensures,
-      c .maybe-side-of .ensures,
-    )
+returns c = cc
 
 pub game-of-spec : {M : Type 1} → statement M
 game-of-spec =

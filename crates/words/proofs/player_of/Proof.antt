@@ -44,15 +44,7 @@ flag-at-requires c κs = search needs
 
 returns : tie.Need-returns
 unfolding playerOf
-returns c =
-    simp (
-      c .before .before .before .before .before .seen-pose-at .ensures,
-      c .before .before .before .before .reference-pose-at .ensures,
-      c .before .before .before .word-at .ensures,
-      c .before .before .penalty-of .ensures,
-      c .before .float-at .ensures,
-      c .flag-at .ensures,
-    )
+returns c = cc
 
 pub player-of-spec : {M : Type 1} → statement M
 player-of-spec =

@@ -1,3 +1,4 @@
+-- By the refusal: 0 beside the decision, another number beside the empty one.
 use Rattle.decision.proofs.Told.{answer-accepted, answer-refused}
 use borrow.Author.Needs.{needs}
 use Rattle.decision.proofs.call.decide.Statement.{statement}

@@ -1,3 +1,4 @@
+-- Item by item, as the calls tell; both sides by their margins.
 use Rattle.decision.proofs.Told.{decision-told}
 use borrow.Author.Needs.{needs}
 use Rattle.decision.proofs.call.judged.Statement.{statement}

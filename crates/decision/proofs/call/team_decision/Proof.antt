@@ -1,3 +1,4 @@
+-- Item by item, as the calls tell.
 use Rattle.decision.proofs.Told.{side-told}
 use mathlib.Core.Path.{ap}
 use Rattle.motion.specs.declared.Motion.{Motion}

@@ -2,17 +2,16 @@
 use mathlib.Core.Path.{_≡_, refl}
 use Prim.Native.Nat.{_≤_, _-_}
 use borrow.Author.Needs.{needs}
-use lib.ListN.{getD}
 use Rattle.lists.specs.Table.{filled}
 use Rattle.lists.proofs.Table.{turn, done}
-use Rattle.game.specs.Players.{nobody, marginsAt}
-use Rattle.decision.specs.Decision.{verdictOn, teamVerdicts}
+use Rattle.decision.specs.Decision.{verdictAt, teamVerdicts}
+use Rattle.decision.proofs.Told.{verdict-told}
 use Rattle.decision.proofs.judges.team_verdicts.Statement.{statement}
 use Rattle.decision.proofs.judges.team_verdicts.Tie as tie
 
 abbrev Inv-loop : tie.InvT-loop
 Inv-loop game field ball side margins players goalkeeper out₀ i₀ out i =
-    (i ≤ 20) × (out ≡ filled (λ k. verdictOn game field ball side goalkeeper (getD players k nobody) (marginsAt margins k) k) out₀ i)
+    (i ≤ 20) × (out ≡ filled (verdictAt game field ball side (record { players = players; goalkeeper = goalkeeper }) margins) out₀ i)
 
 abbrev μ-loop : tie.MeasureT-loop
 μ-loop game field ball side margins players goalkeeper out₀ i₀ out i = 20 - i
@@ -32,8 +31,14 @@ mul-slot c = search needs
 array-copy-out-slot : tie.Need-array-copy-out-slot Inv-loop μ-loop
 array-copy-out-slot c = search needs
 
-verdict-on-requires : tie.Need-verdict-on-requires Inv-loop μ-loop
-verdict-on-requires c κs = search needs
+add-number : tie.Need-add-number Inv-loop μ-loop
+add-number c = search needs
+
+cast-number : tie.Need-cast-number Inv-loop μ-loop
+cast-number c = search needs
+
+is-illegally-positioned-requires : tie.Need-is-illegally-positioned-requires Inv-loop μ-loop
+is-illegally-positioned-requires c κs = search needs
 
 array-set-from-out : tie.Need-array-set-from-out Inv-loop μ-loop
 array-set-from-out c = search needs
@@ -45,7 +50,7 @@ loop-less : tie.Need-loop-less Inv-loop μ-loop
 loop-less c = search needs
 
 loop-again : tie.Need-loop-again Inv-loop μ-loop
-loop-again c = (search needs, turn _ _ _ _ _ (search needs) (c .before .before .before .before .loop .inv .1) (c .verdict-on .ensures))
+loop-again c = (search needs, turn _ _ _ _ _ (search needs) (c .before .before .before .before .loop .inv .1) (verdict-told _ _ (c .is-illegally-positioned .ensures)))
 
 returns : tie.Need-returns Inv-loop μ-loop
 unfolding teamVerdicts
@@ -62,7 +67,9 @@ team-verdicts-spec =
     array-copy-out-player
     mul-slot
     array-copy-out-slot
-    verdict-on-requires
+    add-number
+    cast-number
+    is-illegally-positioned-requires
     array-set-from-out
     add-i
     loop-less

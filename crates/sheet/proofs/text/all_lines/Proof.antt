@@ -1,80 +1,80 @@
--- Each call begins where the one before it ended.
+-- After i turns the lines of the first i blocks are written, and the next place is the one after them.
 use denote.Ref.{now}
-use mathlib.Core.Path.{refl}
-use mathlib.Core.List.{_++_}
+use mathlib.Core.Path.{ap, _∙_}
+use mathlib.Core.List.{List}
+use Prim.Native.Nat.{_≤_, _-_}
 use native.Mathlib.Omega.{arith}
-use Prim.Native.Nat.{_+_, _*_}
-use lib.ListN.{length, length-append}
-use Rattle.sheet.specs.Rows.{placeRows}
-use Rattle.sheet.specs.Blocks.{blockRows, allRows}
-use Rattle.sheet.proofs.BlockLaws.{block-count}
-use Rattle.sheet.proofs.Written.{all-count, rows-none, rows-next}
+use lib.ListN.{length}
+use Rattle.lists.specs.Gather.{flatTo}
+use Rattle.lines.specs.declared.Row.{Row}
+use Rattle.lines.specs.Line.{linesOf}
+use Rattle.lines.specs.Over.{over}
+use Rattle.lines.proofs.Lines.{length-lines}
+use Rattle.lines.proofs.Over.{Stage}
+use Rattle.sheet.specs.Blocks.{rowsTo}
+use Rattle.sheet.proofs.Written.{rows-none, few-at, block-fits, block-next, rows-all}
 use borrow.Author.Needs.{needs}
 use Rattle.sheet.proofs.text.all_lines.Statement.{statement}
 use Rattle.sheet.proofs.text.all_lines.Tie as tie
 
-kind-lines-requires : tie.Need-kind-lines-requires
-kind-lines-requires c κs = let s = c .before .before in
-    (s .pre .0 .home-verdicts, s .pre .0 .away-verdicts, omega (arith, s .pre .1, all-count (s .args .b) (s .args .place)))
+abbrev Inv-loop : tie.InvT-loop
+Inv-loop sheet₀ at blocks next₀ i₀ sheet next i = (i ≤ 10) × Stage at sheet₀ (linesOf (rowsTo blocks i)) sheet next
 
-kind-lines-requires-2 : tie.Need-kind-lines-requires-2
-kind-lines-requires-2 c κs = let s = c .before .before .before .before .before .before in
-    (s .pre .0 .home-excess, s .pre .0 .away-excess, omega (arith, s .pre .1, all-count (s .args .b) (s .args .place), c .before .before .before .kind-lines .ensures .0, c .before .before .before .kind-lines .kept .0))
+abbrev μ-loop : tie.MeasureT-loop
+μ-loop sheet₀ at blocks next₀ i₀ sheet next i = 10 - i
 
-block-lines-requires : tie.Need-block-lines-requires
-block-lines-requires c κs = let s = c .before .before .before .before .before .before .before .before .before .before in
-    (s .pre .0 .kicks, omega (arith, s .pre .1, all-count (s .args .b) (s .args .place), c .before .before .before .before .before .before .before .kind-lines .ensures .0, c .before .before .before .before .before .before .before .kind-lines .kept .0, c .before .before .before .kind-lines2 .ensures .0, c .before .before .before .kind-lines2 .kept .0))
+loop-holds : tie.Need-loop-holds Inv-loop μ-loop
+unfolding flatTo
+loop-holds c = (search needs, rows-none (c .before .args .at) (now (c .before .args .sheet)))
 
-kind-lines-requires-3 : tie.Need-kind-lines-requires-3
-kind-lines-requires-3 c κs = let s = c .before .before .before .before .before .before .before .before .before .before .before .before .before .before in
-    (s .pre .0 .home-leaving, s .pre .0 .away-leaving, omega (arith, s .pre .1, all-count (s .args .b) (s .args .place), c .before .before .before .before .before .before .before .before .before .before .before .kind-lines .ensures .0, c .before .before .before .before .before .before .before .before .before .before .before .kind-lines .kept .0, c .before .before .before .before .before .before .before .kind-lines2 .ensures .0, c .before .before .before .before .before .before .before .kind-lines2 .kept .0, c .before .before .before .block-lines .ensures .0, c .before .before .before .block-lines .kept .0))
+mul-b : tie.Need-mul-b Inv-loop μ-loop
+mul-b c = search needs
 
-kind-lines-requires-4 : tie.Need-kind-lines-requires-4
-kind-lines-requires-4 c κs = let s = c .before .before .before .before .before .before .before .before .before .before .before .before .before .before .before .before .before .before in
-    (s .pre .0 .home-moved, s .pre .0 .away-moved, omega (arith, s .pre .1, all-count (s .args .b) (s .args .place), c .before .before .before .before .before .before .before .before .before .before .before .before .before .before .before .kind-lines .ensures .0, c .before .before .before .before .before .before .before .before .before .before .before .before .before .before .before .kind-lines .kept .0, c .before .before .before .before .before .before .before .before .before .before .before .kind-lines2 .ensures .0, c .before .before .before .before .before .before .before .before .before .before .before .kind-lines2 .kept .0, c .before .before .before .before .before .before .before .block-lines .ensures .0, c .before .before .before .before .before .before .before .block-lines .kept .0, c .before .before .before .kind-lines3 .ensures .0, c .before .before .before .kind-lines3 .kept .0))
+array-copy-out-b : tie.Need-array-copy-out-b Inv-loop μ-loop
+array-copy-out-b c = search needs
 
-block-lines-requires-2 : tie.Need-block-lines-requires-2
-block-lines-requires-2 c κs = let s = c .before .before .before .before .before .before .before .before .before .before .before .before .before .before .before .before .before .before .before .before .before .before in
-    (s .pre .0 .judged, omega (arith, s .pre .1, all-count (s .args .b) (s .args .place), c .before .before .before .before .before .before .before .before .before .before .before .before .before .before .before .before .before .before .before .kind-lines .ensures .0, c .before .before .before .before .before .before .before .before .before .before .before .before .before .before .before .before .before .before .before .kind-lines .kept .0, c .before .before .before .before .before .before .before .before .before .before .before .before .before .before .before .kind-lines2 .ensures .0, c .before .before .before .before .before .before .before .before .before .before .before .before .before .before .before .kind-lines2 .kept .0, c .before .before .before .before .before .before .before .before .before .before .before .block-lines .ensures .0, c .before .before .before .before .before .before .before .before .before .before .before .block-lines .kept .0, c .before .before .before .before .before .before .before .kind-lines3 .ensures .0, c .before .before .before .before .before .before .before .kind-lines3 .kept .0, c .before .before .before .kind-lines4 .ensures .0, c .before .before .before .kind-lines4 .kept .0))
+block-lines-requires : tie.Need-block-lines-requires Inv-loop μ-loop
+block-lines-requires c κs = let turn = c .before .before .before in
+    let at = turn .loop in
+    let s = turn .before .before in
+    (few-at (s .args .t3) (at .i) (s .pre .0) (search needs), block-fits (s .args .t3) (at .i) (search needs) (s .args .at) (at .next) (now (s .args .sheet)) (at .sheet) (at .inv .1) (s .pre .1))
 
-place-lines-requires : tie.Need-place-lines-requires
-place-lines-requires c κs = let s = c .before .before .before .before .before .before .before .before .before .before .before .before .before .before .before .before .before .before .before .before .before .before .before .before .before .before in
-    omega (arith, s .pre .1, all-count (s .args .b) (s .args .place), c .before .before .before .before .before .before .before .before .before .before .before .before .before .before .before .before .before .before .before .before .before .before .before .kind-lines .ensures .0, c .before .before .before .before .before .before .before .before .before .before .before .before .before .before .before .before .before .before .before .before .before .before .before .kind-lines .kept .0, c .before .before .before .before .before .before .before .before .before .before .before .before .before .before .before .before .before .before .before .kind-lines2 .ensures .0, c .before .before .before .before .before .before .before .before .before .before .before .before .before .before .before .before .before .before .before .kind-lines2 .kept .0, c .before .before .before .before .before .before .before .before .before .before .before .before .before .before .before .block-lines .ensures .0, c .before .before .before .before .before .before .before .before .before .before .before .before .before .before .before .block-lines .kept .0, c .before .before .before .before .before .before .before .before .before .before .before .kind-lines3 .ensures .0, c .before .before .before .before .before .before .before .before .before .before .before .kind-lines3 .kept .0, c .before .before .before .before .before .before .before .kind-lines4 .ensures .0, c .before .before .before .before .before .before .before .kind-lines4 .kept .0, c .before .before .before .block-lines2 .ensures .0, c .before .before .before .block-lines2 .kept .0)
+add-i : tie.Need-add-i Inv-loop μ-loop
+add-i c = search needs
 
-same-length : tie.Need-same-length
-same-length c = search needs
+loop-less : tie.Need-loop-less Inv-loop μ-loop
+loop-less c = search needs
 
-returns : tie.Need-returns
-unfolding allRows
-returns c = let s = c .before .before .before .before .before .before .before .before .before .before .before .before .before .before .before .before .before .before .before .before .before .before .before .before .before .before .before .before .before in
-    let b = s .args .b in
-    let room = s .pre .1 in
-    let total = all-count b (s .args .place) in
-    let c1 = c .before .before .before .before .before .before .before .before .before .before .before .before .before .before .before .before .before .before .before .before .before .before .before .before .before .before .kind-lines in
-    let c2 = c .before .before .before .before .before .before .before .before .before .before .before .before .before .before .before .before .before .before .before .before .before .before .kind-lines2 in
-    let c3 = c .before .before .before .before .before .before .before .before .before .before .before .before .before .before .before .before .before .before .block-lines in
-    let c4 = c .before .before .before .before .before .before .before .before .before .before .before .before .before .before .kind-lines3 in
-    let c5 = c .before .before .before .before .before .before .before .before .before .before .kind-lines4 in
-    let c6 = c .before .before .before .before .before .before .block-lines2 in
-    let c7 = c .before .before .place-lines in
-    let s1 = rows-next (s .args .at) (s .args .at) (c1 .result) (now (s .args .sheet)) _ _ _ (blockRows (b .«home_verdicts») ++ blockRows (b .«away_verdicts»)) (rows-none (s .args .at) (now (s .args .sheet))) (omega (arith, room, total)) (c1 .ensures .1) (omega (arith, c1 .ensures .0, block-count (b .«home_verdicts»), block-count (b .«away_verdicts»), length-append (blockRows (b .«home_verdicts»)) (blockRows (b .«away_verdicts»)))) (c1 .kept .0) in
-    let s2 = rows-next (s .args .at) (c1 .result) (c2 .result) (now (s .args .sheet)) _ _ _ (blockRows (b .«home_excess») ++ blockRows (b .«away_excess»)) (s1) (omega (arith, room, total, c1 .ensures .0)) (c2 .ensures .1) (omega (arith, c2 .ensures .0, block-count (b .«home_excess»), block-count (b .«away_excess»), length-append (blockRows (b .«home_excess»)) (blockRows (b .«away_excess»)))) (c2 .kept .0) in
-    let s3 = rows-next (s .args .at) (c2 .result) (c3 .result) (now (s .args .sheet)) _ _ _ (blockRows (b .kicker)) (s2) (omega (arith, room, total, c1 .ensures .0, c2 .ensures .0)) (c3 .ensures .1) (omega (arith, c3 .ensures .0, block-count (b .kicker))) (c3 .kept .0) in
-    let s4 = rows-next (s .args .at) (c3 .result) (c4 .result) (now (s .args .sheet)) _ _ _ (blockRows (b .«home_leaving») ++ blockRows (b .«away_leaving»)) (s3) (omega (arith, room, total, c1 .ensures .0, c2 .ensures .0, c3 .ensures .0)) (c4 .ensures .1) (omega (arith, c4 .ensures .0, block-count (b .«home_leaving»), block-count (b .«away_leaving»), length-append (blockRows (b .«home_leaving»)) (blockRows (b .«away_leaving»)))) (c4 .kept .0) in
-    let s5 = rows-next (s .args .at) (c4 .result) (c5 .result) (now (s .args .sheet)) _ _ _ (blockRows (b .«home_moved») ++ blockRows (b .«away_moved»)) (s4) (omega (arith, room, total, c1 .ensures .0, c2 .ensures .0, c3 .ensures .0, c4 .ensures .0)) (c5 .ensures .1) (omega (arith, c5 .ensures .0, block-count (b .«home_moved»), block-count (b .«away_moved»), length-append (blockRows (b .«home_moved»)) (blockRows (b .«away_moved»)))) (c5 .kept .0) in
-    let s6 = rows-next (s .args .at) (c5 .result) (c6 .result) (now (s .args .sheet)) _ _ _ (blockRows (b .ball)) (s5) (omega (arith, room, total, c1 .ensures .0, c2 .ensures .0, c3 .ensures .0, c4 .ensures .0, c5 .ensures .0)) (c6 .ensures .1) (omega (arith, c6 .ensures .0, block-count (b .ball))) (c6 .kept .0) in
-    rows-next (s .args .at) (c6 .result) (c6 .result + 45 * length (placeRows (s .args .place))) (now (s .args .sheet)) _ _ _ (placeRows (s .args .place)) (s6) (omega (arith, room, total, c1 .ensures .0, c2 .ensures .0, c3 .ensures .0, c4 .ensures .0, c5 .ensures .0, c6 .ensures .0)) (c7 .ensures) refl (c7 .kept .0) .written
+loop-again : tie.Need-loop-again Inv-loop μ-loop
+loop-again c = let call = c .before .before .block-lines in
+    let turn = c .before .before .before .before .before .before in
+    let at = turn .loop in
+    let s = turn .before .before in
+    (search needs, block-next (s .args .t3) (at .i) (search needs) (s .args .at) (at .next) (call .result) (now (s .args .sheet)) (at .sheet) _ (at .inv .1) (s .pre .1) (call .ensures .1) (call .ensures .0) (call .kept .0))
+
+same-length : tie.Need-same-length Inv-loop μ-loop
+same-length c = c .before .loop .inv .1 .long
+
+returns : tie.Need-returns Inv-loop μ-loop
+returns c = let at = c .before .loop in
+    let s = c .before .before .before in
+    let all = rows-all (s .args .t3) (at .i) (at .inv .0) (c .loop-test .left) in (
+      omega (arith, at .inv .1 .end, length-lines (rowsTo (s .args .t3) (at .i)), ap length all),
+      at .inv .1 .written ∙ ap (λ (r : List Row). over (s .args .at) (linesOf r) (now (s .args .sheet))) all,
+    )
 
 pub all-lines-spec : {M : Type 1} → statement M
 all-lines-spec =
     tie.close
     (tie.spec
-    kind-lines-requires
-    kind-lines-requires-2
+    Inv-loop
+    μ-loop
+    loop-holds
+    mul-b
+    array-copy-out-b
     block-lines-requires
-    kind-lines-requires-3
-    kind-lines-requires-4
-    block-lines-requires-2
-    place-lines-requires
+    add-i
+    loop-less
+    loop-again
     same-length
     returns)

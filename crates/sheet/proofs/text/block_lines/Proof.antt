@@ -1,31 +1,37 @@
-use Prim.Native.Nat.{_+_, _*_}
-use Rattle.lines.specs.declared.Row.{Row}
-use Rattle.sheet.proofs.Written.{lines-none, lines-turn, lines-done}
 -- After i turns the first i lines stand in their places.
-use denote.Ref.{now}
-use mathlib.Core.Path.{_≡_, refl, sym, ap, _∙_}
-use Prim.Native.Nat.{ℕ, _≤_, _-_}
+use mathlib.Core.Path.{_≡_, refl, _∙_}
+use Prim.Native.Nat.{_≤_, _-_}
 use native.Mathlib.Omega.{arith}
-use borrow.Author.Needs.{needs}
 use lib.ListN.{length}
 use Rattle.lists.specs.Gather.{flatTo}
 use Rattle.lines.specs.Line.{lineOf}
 use Rattle.lines.specs.Over.{over}
-use Rattle.sheet.specs.Blocks.{blockRow, blockRows}
+use Rattle.sheet.specs.Blocks.{blockRow}
+use Rattle.sheet.proofs.Written.{lines-none, lines-turn, lines-done}
+use borrow.Author.Needs.{needs}
 use Rattle.sheet.proofs.text.block_lines.Statement.{statement}
 use Rattle.sheet.proofs.text.block_lines.Tie as tie
 
 abbrev Inv-loop : tie.InvT-loop
-Inv-loop sheet₀ at b n i₀ sheet i = (i ≤ n) × (length sheet ≡ length sheet₀) × (sheet ≡ over at (flatTo i (λ k. lineOf (blockRow b k))) sheet₀)
+Inv-loop sheet₀ at b n numbers values i₀ sheet i = (i ≤ n) × (length sheet ≡ length sheet₀) × (sheet ≡ over at (flatTo i (λ k. lineOf (blockRow b k))) sheet₀)
 
 abbrev μ-loop : tie.MeasureT-loop
-μ-loop sheet₀ at b n i₀ sheet i = n - i
+μ-loop sheet₀ at b n numbers values i₀ sheet i = n - i
 
 loop-holds : tie.Need-loop-holds Inv-loop μ-loop
-loop-holds c = (search needs, refl, lines-none (c .before .args .b) (c .before .args .at) _)
+loop-holds c = let s = c .before .before .before .args in (search needs, refl, lines-none (s .b) (s .at) _)
 
-block-row-requires : tie.Need-block-row-requires Inv-loop μ-loop
-block-row-requires c κs = search needs
+array-read-t12 : tie.Need-array-read-t12 Inv-loop μ-loop
+array-read-t12 c = search needs
+
+cast-t13 : tie.Need-cast-t13 Inv-loop μ-loop
+cast-t13 c = search needs
+
+array-read-t16 : tie.Need-array-read-t16 Inv-loop μ-loop
+array-read-t16 c = search needs
+
+cast-t17 : tie.Need-cast-t17 Inv-loop μ-loop
+cast-t17 c = search needs
 
 mul-line-at : tie.Need-mul-line-at Inv-loop μ-loop
 mul-line-at c = search needs
@@ -34,9 +40,7 @@ add-line-at : tie.Need-add-line-at Inv-loop μ-loop
 add-line-at c = search needs
 
 line-at-requires : tie.Need-line-at-requires Inv-loop μ-loop
-line-at-requires c κs =
-    let s = c .before .before .before .before .before in
-    omega (arith, s .pre .1, c .before .before .before .loop .inv .1, c .before .before .loop-test .taken)
+line-at-requires c κs = omega (arith, c .before .before .before .before .before .before .pre .1, c .before .before .loop .inv .1, c .before .loop-test .taken)
 
 add-i : tie.Need-add-i Inv-loop μ-loop
 add-i c = search needs
@@ -45,12 +49,13 @@ loop-less : tie.Need-loop-less Inv-loop μ-loop
 loop-less c = search needs
 
 loop-again : tie.Need-loop-again Inv-loop μ-loop
-loop-again c = let s = c .before .before .before .before .before .before .before .before in
-    let at = c .before .before .before .before .before .before .loop in
-    let call = c .before .before .line-at in (
+loop-again c = let call = c .before .before .line-at in
+    let loop = c .before .before .before .before .before in
+    let at = loop .loop in
+    let s = loop .before .before .before .before in (
       search needs,
       call .kept .0 ∙ at .inv .1,
-      lines-turn (s .args .b) (s .args .at) _ (at .i) (at .sheet) _ (omega (arith, s .pre .1, at .inv .0)) (at .inv .2) (call .ensures ∙ ap (λ (r : Row). over (s .args .at + 45 * at .i) (lineOf r) (at .sheet)) (c .before .before .before .before .block-row .ensures)),
+      lines-turn (s .args .b) (s .args .at) _ (at .i) (at .sheet) _ (omega (arith, s .pre .1, at .inv .0)) (at .inv .2) (call .ensures),
     )
 
 mul-result : tie.Need-mul-result Inv-loop μ-loop
@@ -63,9 +68,9 @@ same-length : tie.Need-same-length Inv-loop μ-loop
 same-length c = c .before .loop .inv .1
 
 returns : tie.Need-returns Inv-loop μ-loop
-returns c = let s = c .before .before .before in
+returns c = let s = c .before .before .before .before .before .args in
     let at = c .before .loop in
-    (refl, lines-done (s .args .b) (s .args .at) _ (at .i) (at .sheet) (at .inv .0) (c .loop-test .left) (at .inv .2))
+    (refl, lines-done (s .b) (s .at) _ (at .i) (at .sheet) (at .inv .0) (c .loop-test .left) (at .inv .2))
 
 pub block-lines-spec : {M : Type 1} → statement M
 block-lines-spec =
@@ -74,7 +79,10 @@ block-lines-spec =
     Inv-loop
     μ-loop
     loop-holds
-    block-row-requires
+    array-read-t12
+    cast-t13
+    array-read-t16
+    cast-t17
     mul-line-at
     add-line-at
     line-at-requires

@@ -1,61 +1,66 @@
+-- After i turns the lines of the first i blocks are counted.
+use mathlib.Core.Path.{_≡_, refl, ap, _∙_}
+use Prim.Native.Nat.{_*_, _≤_, _-_}
 use native.Mathlib.Omega.{arith}
-use Rattle.sheet.proofs.Written.{few-lines, all-count, place-few}
+use lib.ListN.{length}
+use Rattle.lists.specs.Gather.{flatTo}
+use Rattle.sheet.specs.Blocks.{rowsTo}
+use Rattle.sheet.proofs.Written.{blocks-count, few-at, rows-all}
 use borrow.Author.Needs.{needs}
 use Rattle.sheet.proofs.text.line_count.Statement.{statement}
 use Rattle.sheet.proofs.text.line_count.Tie as tie
 
-place-count-requires : tie.Need-place-count-requires
-place-count-requires c κs = search needs
+abbrev Inv-loop : tie.InvT-loop
+Inv-loop blocks n₀ i₀ n i = (i ≤ 10) × (n ≤ 20 * i) × (n ≡ length (rowsTo blocks i))
 
-add-verdicts : tie.Need-add-verdicts
-add-verdicts c = search needs
+abbrev μ-loop : tie.MeasureT-loop
+μ-loop blocks n₀ i₀ n i = 10 - i
 
-add-excess : tie.Need-add-excess
-add-excess c = search needs
+loop-holds : tie.Need-loop-holds Inv-loop μ-loop
+unfolding flatTo
+loop-holds c = (search needs, search needs, refl)
 
-add-leaving : tie.Need-add-leaving
-add-leaving c = search needs
+mul-b : tie.Need-mul-b Inv-loop μ-loop
+mul-b c = search needs
 
-add-moved : tie.Need-add-moved
-add-moved c = search needs
+array-copy-out-b : tie.Need-array-copy-out-b Inv-loop μ-loop
+array-copy-out-b c = search needs
 
-add-result : tie.Need-add-result
-add-result c = search needs
+add-n : tie.Need-add-n Inv-loop μ-loop
+add-n c = let at = c .before .before .before in
+    let s = at .before in
+    omega (arith, few-at (s .args .t1) (at .loop .i) (s .pre) (search needs), at .loop .inv .1, at .loop .inv .0)
 
-add-result-2 : tie.Need-add-result-2
-add-result-2 c = search needs
+add-i : tie.Need-add-i Inv-loop μ-loop
+add-i c = search needs
 
-add-result-3 : tie.Need-add-result-3
-add-result-3 c = search needs
+loop-less : tie.Need-loop-less Inv-loop μ-loop
+loop-less c = search needs
 
-add-result-4 : tie.Need-add-result-4
-add-result-4 c = search needs
+loop-again : tie.Need-loop-again Inv-loop μ-loop
+loop-again c = let at = c .before .before .before in
+    let s = at .before in (
+      search needs,
+      omega (arith, few-at (s .args .t1) (at .loop .i) (s .pre) (search needs), at .loop .inv .1),
+      omega (arith, blocks-count (s .args .t1) (at .loop .i) (search needs), at .loop .inv .2),
+    )
 
-add-result-5 : tie.Need-add-result-5
-add-result-5 c = search needs
-
-add-result-6 : tie.Need-add-result-6
-add-result-6 c = let s = c .before .before .before .before .before .before .before in
-    omega (arith, few-lines (s .args .b) (s .pre), place-few (s .args .place), c .before .before .before .before .before .before .place-count .ensures)
-
-returns : tie.Need-returns
-returns c = let s = c .before .before .before .before .before .before .before in
-    let n = c .before .before .before .before .before .before .place-count .ensures in
-    (omega (arith, n, all-count (s .args .b) (s .args .place)), omega (arith, n, few-lines (s .args .b) (s .pre), place-few (s .args .place)))
+returns : tie.Need-returns Inv-loop μ-loop
+returns c = let at = c .before .loop in
+    let blocks = c .before .before .args .t1 in
+    (at .inv .2 ∙ ap length (rows-all blocks (at .i) (at .inv .0) (c .loop-test .left)), omega (arith, at .inv .0, at .inv .1))
 
 pub line-count-spec : {M : Type 1} → statement M
 line-count-spec =
     tie.close
     (tie.spec
-    place-count-requires
-    add-verdicts
-    add-excess
-    add-leaving
-    add-moved
-    add-result
-    add-result-2
-    add-result-3
-    add-result-4
-    add-result-5
-    add-result-6
+    Inv-loop
+    μ-loop
+    loop-holds
+    mul-b
+    array-copy-out-b
+    add-n
+    add-i
+    loop-less
+    loop-again
     returns)

@@ -1,0 +1,2 @@
+pub mod ExcessKeys
+pub mod ExcessLaws

@@ -1,0 +1,3 @@
+pub mod Hypot
+pub mod Nearest
+pub mod Steps

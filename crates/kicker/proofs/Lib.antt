@@ -1,0 +1,2 @@
+pub mod KickerKeys
+pub mod KickerLaws

@@ -1,0 +1,2 @@
+pub mod Kicker
+pub mod KickerKeys

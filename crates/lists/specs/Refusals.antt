@@ -1,0 +1,29 @@
+-- A list of refusals: the first condition that does not hold, by its number. Definitions only.
+use mathlib.Core.Bool.{Bool, true, _&&_, cond}
+use mathlib.Core.List.{List, [], _∷_}
+use Prim.Native.Nat.{ℕ}
+use lib.Dec.{ltb}
+
+-- what must hold, and the number of the refusal where it does not
+pub record Condition : Type 0 where
+  pub holds : Bool
+  pub number : ℕ
+
+-- the rest's answer where the condition holds, else its number
+abbrev pub orRefused : Condition → ℕ → ℕ
+orRefused c rest = cond (c .holds) rest (c .number)
+
+-- the number of the first condition that does not hold, and 0 where all do
+abbrev pub firstRefusal : List Condition → ℕ
+firstRefusal [] = 0
+firstRefusal (c ∷ cs) = orRefused c (firstRefusal cs)
+
+-- all hold
+abbrev pub allHold : List Condition → Bool
+allHold [] = true
+allHold (c ∷ cs) = c .holds && allHold cs
+
+-- no number is 0, which stands for no refusal
+abbrev pub allNumbered : List Condition → Bool
+allNumbered [] = true
+allNumbered (c ∷ cs) = ltb 0 (c .number) && allNumbered cs

@@ -1,9 +1,0 @@
-pub mod Counting
-pub mod Ranking
-pub mod LeastKey
-pub mod Lexical
-pub mod ExcessKeys
-pub mod KickerKeys
-pub mod CountsLaws
-pub mod ExcessLaws
-pub mod KickerLaws

@@ -1,8 +1,0 @@
-pub mod Counting
-pub mod Ranking
-pub mod Keys
-pub mod Counts
-pub mod Excess
-pub mod ExcessKeys
-pub mod Kicker
-pub mod KickerKeys

@@ -1,0 +1,4 @@
+pub mod Ticks
+pub mod Directions
+pub mod Counts
+pub mod Places

@@ -1,0 +1,125 @@
+"""Made by tools/words/make from crates/columns/specs/Layout.antt and crates/game/src/lib.rt. Change those and not this file.
+
+AT has the first word of each run by its name, and RUNS each run: name, first word, how many groups, greatest values of a group.
+"""
+
+WORDS = 563
+POSE_WORDS = 5
+ANY = 0xffffffff
+NO_NUMBER = 256
+NO_SIDE = 2
+
+RUNS = [
+    ("LENGTH", 0, 1, [ANY]),
+    ("WIDTH", 1, 1, [ANY]),
+    ("GOAL_WIDTH", 2, 1, [ANY]),
+    ("GOAL_HEIGHT", 3, 1, [ANY]),
+    ("GOAL_AREA_LENGTH", 4, 1, [ANY]),
+    ("GOAL_AREA_WIDTH", 5, 1, [ANY]),
+    ("PENALTY_AREA_LENGTH", 6, 1, [ANY]),
+    ("PENALTY_AREA_WIDTH", 7, 1, [ANY]),
+    ("PENALTY_MARK_DISTANCE", 8, 1, [ANY]),
+    ("CENTER_CIRCLE_RADIUS", 9, 1, [ANY]),
+    ("BORDER_STRIP_WIDTH", 10, 1, [ANY]),
+    ("MARK_RADIUS", 11, 1, [ANY]),
+    ("LINE_WIDTH", 12, 1, [ANY]),
+    ("BALL_RADIUS", 13, 1, [ANY]),
+    ("PENALTY_PLACEMENT_DISTANCE", 14, 1, [ANY]),
+    ("SIDES", 15, 1, [1]),
+    ("STOPPED", 16, 1, [1]),
+    ("PHASE", 17, 1, [4]),
+    ("STATE", 18, 1, [5]),
+    ("SET_PLAY", 19, 1, [7]),
+    ("KICKING_SIDE", 20, 1, [2]),
+    ("GOALKEEPERS", 21, 2, [256]),
+    ("PENALTIES", 23, 40, [13]),
+    ("POSES", 63, 40, [1, ANY, ANY, ANY, ANY]),
+    ("REFERENCES", 263, 40, [1, ANY, ANY, ANY, ANY]),
+    ("ALLOWANCES", 463, 40, [ANY]),
+    ("PREVIOUSLY_INSIDE", 503, 40, [1]),
+    ("BALL", 543, 3, [ANY]),
+    ("LAST_CONTACT", 546, 1, [2]),
+    ("RESTART", 547, 1, [1]),
+    ("RESTART_KIND", 548, 1, [3]),
+    ("RESTART_SET_PLAY", 549, 1, [7]),
+    ("RESTART_SIDE", 550, 1, [1]),
+    ("RESTART_KICKER", 551, 1, [256]),
+    ("KICK_POSITION", 552, 2, [ANY]),
+    ("OTHER_TOUCH", 554, 1, [1]),
+    ("KICKER_TOUCHED_OUTSIDE_CENTER_CIRCLE", 555, 1, [1]),
+    ("KICKER_TOUCHED_FAR_FROM_KICK", 556, 1, [1]),
+    ("BALL_MOVED_SINCE_KICK", 557, 1, [1]),
+    ("INVALID_GOALS_JUDGED", 558, 1, [1]),
+    ("BALL_RESTED", 559, 1, [1]),
+    ("WISH", 560, 1, [5]),
+    ("WISHED_SIDE", 561, 1, [1]),
+    ("WISHED_PLAYER", 562, 1, [255]),
+]
+
+AT = {name: first for name, first, _, _ in RUNS}
+
+# The greatest value of each word.
+GREATEST = [word for _, _, groups, group in RUNS for word in groups * group]
+
+# Side
+SIDE_HOME = 0
+SIDE_AWAY = 1
+
+# SideMapping
+SIDE_MAPPING_HOME_DEFENDS_LEFT_GOAL = 0
+SIDE_MAPPING_HOME_DEFENDS_RIGHT_GOAL = 1
+
+# Phase
+PHASE_FIRST_HALF = 0
+PHASE_SECOND_HALF = 1
+PHASE_FIRST_EXTRA_HALF = 2
+PHASE_SECOND_EXTRA_HALF = 3
+PHASE_PENALTY_SHOOTOUT = 4
+
+# State
+STATE_INITIAL = 0
+STATE_READY = 1
+STATE_SET = 2
+STATE_PLAYING = 3
+STATE_FINISHED = 4
+STATE_TIMEOUT = 5
+
+# SetPlay
+SET_PLAY_NO_SET_PLAY = 0
+SET_PLAY_KICK_OFF = 1
+SET_PLAY_DIRECT_FREE_KICK = 2
+SET_PLAY_INDIRECT_FREE_KICK = 3
+SET_PLAY_PENALTY_KICK = 4
+SET_PLAY_THROW_IN = 5
+SET_PLAY_GOAL_KICK = 6
+SET_PLAY_CORNER_KICK = 7
+
+# Penalty
+PENALTY_NO_PENALTY = 0
+PENALTY_ILLEGAL_POSITIONING = 1
+PENALTY_MOTION_IN_SET = 2
+PENALTY_MOTION_IN_STOP = 3
+PENALTY_LOCAL_GAME_STUCK = 4
+PENALTY_INCAPABLE_ROBOT = 5
+PENALTY_PICKED_UP = 6
+PENALTY_BALL_HOLDING = 7
+PENALTY_LEAVING_THE_FIELD = 8
+PENALTY_PLAYING_WITH_ARMS_HANDS = 9
+PENALTY_PUSHING = 10
+PENALTY_CAUTIONED = 11
+PENALTY_SENT_OFF = 12
+PENALTY_SUBSTITUTE = 13
+
+# RestartKind
+RESTART_KIND_KICK_OFF = 0
+RESTART_KIND_INDIRECT = 1
+RESTART_KIND_DIRECT = 2
+RESTART_KIND_PENALTY_SHOT = 3
+
+# Wish
+WISH_NOTHING = 0
+WISH_BALL_AT_RESTART = 1
+WISH_BALL_IN_SET = 2
+WISH_FOR_PENALTY = 3
+WISH_FOR_PENALTY_SHOT = 4
+WISH_GOALKEEPER = 5
