@@ -12,9 +12,9 @@
 #define REFEREE_POSE_WORDS 5
 
 /* the length of the field; float, its bit pattern */
-#define REFEREE_W_LENGTH 0
+#define REFEREE_W_FIELD_LENGTH 0
 /* the width of the field; float, its bit pattern */
-#define REFEREE_W_WIDTH 1
+#define REFEREE_W_FIELD_WIDTH 1
 /* the width of a goal; float, its bit pattern */
 #define REFEREE_W_GOAL_WIDTH 2
 /* the height of a goal; float, its bit pattern */

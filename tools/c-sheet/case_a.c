@@ -24,7 +24,7 @@ int main(void) {
     static const float sizes[14] = {14, 9, 2.5f, 1.75f, 1, 4, 3, 6, 2, 1.5f, 1, 0.0625f, 0.0625f, 0.125f};
     uint32_t words[REFEREE_WORDS] = {0};
     for (int i = 0; i < 14; i++)
-        words[REFEREE_W_LENGTH + i] = bits(sizes[i]);
+        words[REFEREE_W_FIELD_LENGTH + i] = bits(sizes[i]);
     words[REFEREE_W_PENALTY_PLACEMENT_DISTANCE] = bits(1);
     words[REFEREE_W_STATE] = REFEREE_STATE_PLAYING;
     words[REFEREE_W_KICKING_SIDE] = REFEREE_NO_SIDE;

@@ -85,7 +85,7 @@ def player_places(number):
 
 # the words that cases change, by name
 PLACES = {
-    "length": AT["LENGTH"],
+    "length": AT["FIELD_LENGTH"],
     "distance": AT["PENALTY_PLACEMENT_DISTANCE"],
     "sides": AT["SIDES"],
     "state": AT["STATE"],

@@ -10,8 +10,8 @@ NO_NUMBER = 256
 NO_SIDE = 2
 
 RUNS = [
-    ("LENGTH", 0, 1, [ANY]),
-    ("WIDTH", 1, 1, [ANY]),
+    ("FIELD_LENGTH", 0, 1, [ANY]),
+    ("FIELD_WIDTH", 1, 1, [ANY]),
     ("GOAL_WIDTH", 2, 1, [ANY]),
     ("GOAL_HEIGHT", 3, 1, [ANY]),
     ("GOAL_AREA_LENGTH", 4, 1, [ANY]),

@@ -6,12 +6,12 @@ use Rattle.lists.specs.Gather.{flatTo}
 
 -- ---- the first word of each run, by its name; what it holds, and in brackets of which type the values are
 -- the length of the field (float)
-abbrev pub length : ℕ
-length = 0
+abbrev pub fieldLength : ℕ
+fieldLength = 0
 
 -- the width of the field (float)
-abbrev pub width : ℕ
-width = 1
+abbrev pub fieldWidth : ℕ
+fieldWidth = 1
 
 -- the width of a goal (float)
 abbrev pub goalWidth : ℕ
@@ -213,8 +213,8 @@ pub data Run : Type 0 where
 -- the words of a situation
 unfoldable pub layout : List Run
 layout =
-    run length 1 float
-    ∷ run width 1 float
+    run fieldLength 1 float
+    ∷ run fieldWidth 1 float
     ∷ run goalWidth 1 float
     ∷ run goalHeight 1 float
     ∷ run goalAreaLength 1 float

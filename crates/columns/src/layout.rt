@@ -7,10 +7,10 @@ pub const WORDS: usize = 563;
 pub const POSE_WORDS: usize = 5;
 
 // The first word of: the length of the field.
-pub const LENGTH: usize = 0;
+pub const FIELD_LENGTH: usize = 0;
 
 // The first word of: the width of the field.
-pub const WIDTH: usize = 1;
+pub const FIELD_WIDTH: usize = 1;
 
 // The first word of: the width of a goal.
 pub const GOAL_WIDTH: usize = 2;

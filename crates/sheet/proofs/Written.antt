@@ -14,9 +14,9 @@ use Rattle.lines.specs.Line.{lineOf, linesOf}
 use Rattle.lines.specs.Over.{over}
 use Rattle.lines.proofs.Over.{over-none, over-then, Stage, stage-none, stage-next}
 use Rattle.lines.proofs.Lines.{length-line, length-lines, lines-append}
-use Rattle.sheet.specs.Blocks.{blockRow, blockRows, Few, blockAt, rowsTo, allRows, spotRows}
+use Rattle.sheet.specs.Blocks.{blockRow, blockRows, Few, blockAt, rowsTo, allRows, placeLineRows}
 use Rattle.sheet.specs.declared.blocks.Block.{Block}
-use Rattle.sheet.specs.declared.blocks.Spot.{Spot}
+use Rattle.sheet.specs.declared.blocks.PlaceLines.{PlaceLines}
 use Rattle.sheet.specs.Rows.{row, placeRows}
 use Rattle.game.specs.declared.Placement.{Placement}
 use Rattle.game.specs.declared.Placement.the-variants.{NoPlace, BallAt, PlayerAt}
@@ -95,14 +95,14 @@ unfolding allRows
 rows-all bs i low high = ap (rowsTo bs) (le-antisymm low high)
 
 -- ---- the lines of a place
-pub spot-none : (s : Spot) → s .lines < 3 → spotRows s ≡ []
-unfolding spotRows
-spot-none s h = simp (lt-ltb (s .lines) 3 h)
+pub no-place-lines : (s : PlaceLines) → s .lines < 3 → placeLineRows s ≡ []
+unfolding placeLineRows
+no-place-lines s h = simp (lt-ltb (s .lines) 3 h)
 
-pub spot-three : (s : Spot) → 3 ≤ s .lines
-    → spotRows s ≡ row 7 (s .side) (s .number) (s .x) ∷ row 8 (s .side) (s .number) (s .y) ∷ row 9 (s .side) (s .number) (s .z) ∷ []
-unfolding spotRows
-spot-three s h = simp (le-ltb (s .lines) 3 h)
+pub three-place-lines : (s : PlaceLines) → 3 ≤ s .lines
+    → placeLineRows s ≡ row 7 (s .side) (s .number) (s .x) ∷ row 8 (s .side) (s .number) (s .y) ∷ row 9 (s .side) (s .number) (s .z) ∷ []
+unfolding placeLineRows
+three-place-lines s h = simp (le-ltb (s .lines) 3 h)
 
 -- a place has three lines at most
 pub place-few : (p : Placement) → length (placeRows p) ≤ 3

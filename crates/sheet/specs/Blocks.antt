@@ -12,7 +12,7 @@ use Rattle.game.specs.declared.Side.{Side}
 use Rattle.lines.specs.declared.Row.{Row}
 use Rattle.sheet.specs.Rows.{row, listRows}
 use Rattle.sheet.specs.declared.blocks.Block.{Block}
-use Rattle.sheet.specs.declared.blocks.Spot.{Spot}
+use Rattle.sheet.specs.declared.blocks.PlaceLines.{PlaceLines}
 
 -- the line k of a block
 abbrev pub blockRow : Block → ℕ → Row
@@ -48,7 +48,7 @@ unfoldable pub allRows : List Block → List Row
 allRows bs = rowsTo bs 10
 
 -- the lines of a place: three, or none
-unfoldable pub spotRows : Spot → List Row
-spotRows s =
+unfoldable pub placeLineRows : PlaceLines → List Row
+placeLineRows s =
     cond (ltb (s .lines) 3) []
     (row 7 (s .side) (s .number) (s .x) ∷ row 8 (s .side) (s .number) (s .y) ∷ row 9 (s .side) (s .number) (s .z) ∷ [])

@@ -7,7 +7,7 @@ ghost use Rattle.lists.specs.Gather.{onlyIf};
 ghost use Rattle.lists.specs.Put.{countIf};
 ghost use Rattle.game.specs.Codes.{positioningCode, sideCode, judgmentCode, judgmentSide};
 ghost use Rattle.sheet.specs.Rows as Spec;
-ghost use Rattle.sheet.specs.Blocks.{Holds, HoldsList, Few, allRows, spotRows};
+ghost use Rattle.sheet.specs.Blocks.{Holds, HoldsList, Few, allRows, placeLineRows};
 use game::BallJudgment;
 use game::Decision;
 use game::KickingPlayer;
@@ -28,7 +28,7 @@ pub struct Block {
 }
 
 // The lines of a place, 3 or 0: the side and the number of each, and their values.
-pub struct Spot {
+pub struct PlaceLines {
     pub lines: usize,
     pub side: u32,
     pub number: u32,
@@ -224,11 +224,11 @@ pub(crate) fn blocks_of(d: Decision) -> [Block; 10]
 }
 
 // The lines of a place.
-pub(crate) fn spot_of(place: Placement) -> Spot
-    ensures { λ r. ⌜ (r .lines ≡ length (Spec.placeRows place)) × (spotRows r ≡ Spec.placeRows place) ⌝ }
+pub(crate) fn lines_of_place(place: Placement) -> PlaceLines
+    ensures { λ r. ⌜ (r .lines ≡ length (Spec.placeRows place)) × (placeLineRows r ≡ Spec.placeRows place) ⌝ }
 {
     match place {
-        Placement::NoPlace => Spot {
+        Placement::NoPlace => PlaceLines {
             lines: 0,
             side: 2,
             number: 0,
@@ -240,7 +240,7 @@ pub(crate) fn spot_of(place: Placement) -> Spot
             let x = floats::bits(x);
             let y = floats::bits(y);
             let z = floats::bits(z);
-            Spot {
+            PlaceLines {
                 lines: 3,
                 side: 2,
                 number: 0,
@@ -260,7 +260,7 @@ pub(crate) fn spot_of(place: Placement) -> Spot
             let x = floats::bits(x);
             let y = floats::bits(y);
             let z = floats::bits(theta);
-            Spot {
+            PlaceLines {
                 lines: 3,
                 side,
                 number: number as u32,

@@ -4,10 +4,10 @@ ghost use Prim.Native.Nat.{_+_, _*_, _≤_};
 ghost use lib.ListN.{length};
 ghost use Rattle.lines.specs.Line.{lineOf, linesOf};
 ghost use Rattle.lines.specs.Over.{over};
-ghost use Rattle.sheet.specs.Blocks.{blockRows, Few, allRows, spotRows};
+ghost use Rattle.sheet.specs.Blocks.{blockRows, Few, allRows, placeLineRows};
 ghost use Rattle.sheet.specs.Sheet as Spec;
 use super::blocks::Block;
-use super::blocks::Spot;
+use super::blocks::PlaceLines;
 use game::Decision;
 use lines::Row;
 
@@ -80,32 +80,32 @@ fn line_count(blocks: [Block; 10]) -> usize
 }
 
 // Writes the lines of a place, where there is one.
-fn place_lines(sheet: &mut [u8], at: usize, spot: Spot)
-    requires { ⌜ at + 45 * length (spotRows spot) ≤ length (now sheet) ⌝ }
-    ensures { λ _. ⌜ now (sheet .exit) ≡ over at (linesOf (spotRows spot)) (now (sheet .entry)) ⌝ }
+fn place_lines(sheet: &mut [u8], at: usize, placed: PlaceLines)
+    requires { ⌜ at + 45 * length (placeLineRows placed) ≤ length (now sheet) ⌝ }
+    ensures { λ _. ⌜ now (sheet .exit) ≡ over at (linesOf (placeLineRows placed)) (now (sheet .entry)) ⌝ }
 {
-    if spot.lines < 3 {
+    if placed.lines < 3 {
         return;
     }
     let x = Row {
         kind: 7,
-        side: spot.side,
-        number: spot.number,
-        value: spot.x,
+        side: placed.side,
+        number: placed.number,
+        value: placed.x,
     };
     line_at(sheet, at, x);
     let y = Row {
         kind: 8,
-        side: spot.side,
-        number: spot.number,
-        value: spot.y,
+        side: placed.side,
+        number: placed.number,
+        value: placed.y,
     };
     line_at(sheet, at + 45, y);
     let z = Row {
         kind: 9,
-        side: spot.side,
-        number: spot.number,
-        value: spot.z,
+        side: placed.side,
+        number: placed.number,
+        value: placed.z,
     };
     line_at(sheet, at + 45 + 45, z);
 }
@@ -118,8 +118,8 @@ pub fn write_decision(d: Decision, sheet: &mut [u8]) -> SheetAnswer
 {
     let blocks = super::blocks::blocks_of(d);
     let place = d.place;
-    let spot = super::blocks::spot_of(place);
-    let n = line_count(blocks) + spot.lines;
+    let placed = super::blocks::lines_of_place(place);
+    let n = line_count(blocks) + placed.lines;
     let bytes = 45 * n + 45;
     if sheet.len() < bytes {
         return SheetAnswer::Refused(7);
@@ -132,6 +132,6 @@ pub fn write_decision(d: Decision, sheet: &mut [u8]) -> SheetAnswer
     };
     line_at(sheet, 0, header);
     let next = all_lines(sheet, 45, blocks);
-    place_lines(sheet, next, spot);
+    place_lines(sheet, next, placed);
     SheetAnswer::Written(bytes)
 }

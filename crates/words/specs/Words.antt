@@ -126,8 +126,8 @@ flagAt ws i = eqb (wordAt ws i) 1
 unfoldable pub fieldOf : List ℕ → FieldDimensions
 fieldOf ws =
     record {
-      length = floatAt ws At.length;
-      width = floatAt ws At.width;
+      length = floatAt ws At.fieldLength;
+      width = floatAt ws At.fieldWidth;
       «goal_width» = floatAt ws At.goalWidth;
       «goal_height» = floatAt ws At.goalHeight;
       «goal_area_length» = floatAt ws At.goalAreaLength;

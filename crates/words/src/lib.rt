@@ -194,8 +194,8 @@ fn field_of(words: &[u32]) -> FieldDimensions
     ensures { λ r. ⌜ r ≡ Spec.fieldOf (now (words .entry)) ⌝ }
 {
     FieldDimensions {
-        length: float_at(words, layout::LENGTH),
-        width: float_at(words, layout::WIDTH),
+        length: float_at(words, layout::FIELD_LENGTH),
+        width: float_at(words, layout::FIELD_WIDTH),
         goal_width: float_at(words, layout::GOAL_WIDTH),
         goal_height: float_at(words, layout::GOAL_HEIGHT),
         goal_area_length: float_at(words, layout::GOAL_AREA_LENGTH),

@@ -7,9 +7,9 @@ pub const NO_NUMBER: u32 = 256;
 pub const NO_SIDE: u32 = 2;
 
 /// the length of the field
-pub const LENGTH: usize = 0;
+pub const FIELD_LENGTH: usize = 0;
 /// the width of the field
-pub const WIDTH: usize = 1;
+pub const FIELD_WIDTH: usize = 1;
 /// the width of a goal
 pub const GOAL_WIDTH: usize = 2;
 /// the height of a goal
@@ -97,8 +97,8 @@ pub const WISHED_PLAYER: usize = 562;
 
 /// First word, how many groups, greatest values of a group.
 pub const RUNS: [(usize, usize, &[u32]); 44] = [
-    (LENGTH, 1, &[u32::MAX]),
-    (WIDTH, 1, &[u32::MAX]),
+    (FIELD_LENGTH, 1, &[u32::MAX]),
+    (FIELD_WIDTH, 1, &[u32::MAX]),
     (GOAL_WIDTH, 1, &[u32::MAX]),
     (GOAL_HEIGHT, 1, &[u32::MAX]),
     (GOAL_AREA_LENGTH, 1, &[u32::MAX]),

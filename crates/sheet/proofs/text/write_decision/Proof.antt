@@ -6,7 +6,7 @@ use Prim.Native.Nat.{_+_, _≤_}
 use native.Mathlib.Omega.{arith}
 use lib.ListN.{length, length-append}
 use Rattle.lines.specs.declared.Row.{Row}
-use Rattle.sheet.specs.Blocks.{allRows, spotRows}
+use Rattle.sheet.specs.Blocks.{allRows, placeLineRows}
 use Rattle.sheet.specs.Rows.{placeRows, rowsOf}
 use Rattle.sheet.proofs.Answers.{decision-refused, decision-written}
 use Rattle.sheet.proofs.Written.{place-few}
@@ -15,25 +15,25 @@ use Rattle.sheet.proofs.text.write_decision.Statement.{statement}
 use Rattle.sheet.proofs.text.write_decision.Tie as tie
 
 -- the lines of the blocks and those of the place are the decision's
-all-told : (c : tie.After-line-count) → allRows (c .before .before .blocks-of .result) ++ spotRows (c .before .spot-of .result) ≡ rowsOf (c .before .before .before .before .args .d)
-all-told c = ap (λ (r : List Row). allRows (c .before .before .blocks-of .result) ++ r) (c .before .spot-of .ensures .1) ∙ c .before .before .blocks-of .ensures .1
+all-told : (c : tie.After-line-count) → allRows (c .before .before .blocks-of .result) ++ placeLineRows (c .before .lines-of-place .result) ≡ rowsOf (c .before .before .before .before .args .d)
+all-told c = ap (λ (r : List Row). allRows (c .before .before .blocks-of .result) ++ r) (c .before .lines-of-place .ensures .1) ∙ c .before .before .blocks-of .ensures .1
 
 -- so is their number
-counted : (c : tie.After-line-count) → c .line-count .result + c .before .spot-of .result .lines ≡ length (rowsOf (c .before .before .before .before .args .d))
+counted : (c : tie.After-line-count) → c .line-count .result + c .before .lines-of-place .result .lines ≡ length (rowsOf (c .before .before .before .before .args .d))
 counted c =
     let blocks = c .before .before .blocks-of .result in
     let place = placeRows (c .before .before .before .before .args .d .place) in
-    omega (arith, c .line-count .ensures .0, c .before .spot-of .ensures .0, length-append (allRows blocks) place, ap length (c .before .before .blocks-of .ensures .1))
+    omega (arith, c .line-count .ensures .0, c .before .lines-of-place .ensures .0, length-append (allRows blocks) place, ap length (c .before .before .blocks-of .ensures .1))
 
 -- there are few of them
-few : (c : tie.After-line-count) → c .line-count .result + c .before .spot-of .result .lines ≤ 203
-few c = omega (arith, c .line-count .ensures .1, c .before .spot-of .ensures .0, place-few (c .before .before .before .before .args .d .place))
+few : (c : tie.After-line-count) → c .line-count .result + c .before .lines-of-place .result .lines ≤ 203
+few c = omega (arith, c .line-count .ensures .1, c .before .lines-of-place .ensures .0, place-few (c .before .before .before .before .args .d .place))
 
 blocks-of-requires : tie.Need-blocks-of-requires
 blocks-of-requires c κs = search needs
 
-spot-of-requires : tie.Need-spot-of-requires
-spot-of-requires c κs = search needs
+lines-of-place-requires : tie.Need-lines-of-place-requires
+lines-of-place-requires c κs = search needs
 
 line-count-requires : tie.Need-line-count-requires
 line-count-requires c κs = search needs
@@ -66,8 +66,8 @@ place-lines-requires c κs =
     let second = c .before .before .before in
     let first = second .before .before .before .before in
     let told = first .before .before .before .before in
-    let spot = told .before .spot-of .ensures in
-    omega (arith, second .all-lines .ensures .0, told .line-count .ensures .0, spot .0, ap length (spot .1), first .before .before .if1 .left, first .line-at .kept .0, second .all-lines .kept .0)
+    let placed = told .before .lines-of-place .ensures in
+    omega (arith, second .all-lines .ensures .0, told .line-count .ensures .0, placed .0, ap length (placed .1), first .before .before .if1 .left, first .line-at .kept .0, second .all-lines .kept .0)
 
 same-length : tie.Need-same-length
 same-length c = search needs
@@ -86,7 +86,7 @@ write-decision-spec =
     tie.close
     (tie.spec
     blocks-of-requires
-    spot-of-requires
+    lines-of-place-requires
     line-count-requires
     add-n
     mul-bytes

@@ -1,8 +1,8 @@
 use Rattle.sheet.specs.Rows.{placeRows}
-use Rattle.sheet.specs.Blocks.{spotRows}
+use Rattle.sheet.specs.Blocks.{placeLineRows}
 use borrow.Author.Needs.{needs}
-use Rattle.sheet.proofs.blocks.spot_of.Statement.{statement}
-use Rattle.sheet.proofs.blocks.spot_of.Tie as tie
+use Rattle.sheet.proofs.blocks.lines_of_place.Statement.{statement}
+use Rattle.sheet.proofs.blocks.lines_of_place.Tie as tie
 
 enum-told : tie.Need-enum-told
 enum-told c = search needs
@@ -38,21 +38,21 @@ cast-t18 : tie.Need-cast-t18
 cast-t18 c = search needs
 
 returns : tie.Need-returns
-unfolding placeRows spotRows
+unfolding placeRows placeLineRows
 returns c = (simp (c .enum-told .given .1), simp (c .enum-told .given .1))
 
 returns-2 : tie.Need-returns-2
-unfolding placeRows spotRows
+unfolding placeRows placeLineRows
 returns-2 c = let place = c .before .before .before .before .place .given .1 in
     (simp place, simp (place, c .before .before .bits .ensures, c .before .bits2 .ensures, c .bits3 .ensures))
 
 returns-3 : tie.Need-returns-3
-unfolding placeRows spotRows
+unfolding placeRows placeLineRows
 returns-3 c = let place = c .before .before .before .before .before .place2 .given .1 in
     (simp place, simp (place, c .before .before .before .side-code .ensures, c .before .before .bits4 .ensures, c .before .bits5 .ensures, c .bits6 .ensures))
 
-pub spot-of-spec : {M : Type 1} → statement M
-spot-of-spec =
+pub lines-of-place-spec : {M : Type 1} → statement M
+lines-of-place-spec =
     tie.close
     (tie.spec
     enum-told
