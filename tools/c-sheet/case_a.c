@@ -40,7 +40,6 @@ int main(void) {
     words[REFEREE_W_BALL + 1] = bits(1);
     words[REFEREE_W_BALL + 2] = bits(0.125f);
     words[REFEREE_W_LAST_CONTACT] = REFEREE_NO_SIDE;
-    words[REFEREE_W_RESTART_KICKER] = REFEREE_NO_NUMBER;
 
     static const float none[1];
     uint8_t sheet[REFEREE_SHEET_BYTES];

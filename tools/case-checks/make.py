@@ -13,8 +13,8 @@ README.md has the form of a record. A situation is words of 32 bits; a float is 
 has where each run of words begins; PLACES has the words that cases change, by name. Players are in the order Home 1
 to 20, then Away 1 to 20. A pose is five words: present (0 or 1), x, y, theta and radius.
 
-Case A leaves open whether invalid goals are judged and whether the ball has rested: both are 0 here. The words of
-the Restart record, which is absent, are 0, but for the kicker, which is none.
+Case A leaves open whether invalid goals are judged and whether the ball has rested: both are 0. The words of the
+Restart record, which is absent, are 0.
 """
 
 import pathlib
@@ -72,7 +72,6 @@ CASE_A = {
     "PREVIOUSLY_INSIDE": [int(k in INSIDE) for k in range(40)],
     "BALL": [bits(7.25), bits(1.0), bits(0.125)],
     "LAST_CONTACT": [NO_SIDE],
-    "RESTART_KICKER": [NO_NUMBER],
 }
 
 

@@ -1,4 +1,5 @@
 //! Links libreferee_c.a: from the folder REFEREE_LIB_DIR if that is set, else from the repository's target/staticlib.
+//! With the feature `mpfr` also libmpfr and libgmp, from where the linker finds them.
 
 use std::env;
 use std::path::{Path, PathBuf};
@@ -24,4 +25,8 @@ fn main() {
     }
     println!("cargo:rustc-link-search=native={}", folder.display());
     println!("cargo:rustc-link-lib=static=referee_c");
+    if env::var_os("CARGO_FEATURE_MPFR").is_some() {
+        println!("cargo:rustc-link-lib=mpfr");
+        println!("cargo:rustc-link-lib=gmp");
+    }
 }

@@ -10,7 +10,8 @@ What a function of `floats` should give is computed here from its definition, on
 alone: minimumNumber, maximumNumber, totalOrder and hypot are those of IEEE 754-2019; abs, copysign, clamp and
 rem_euclid are those of Rust's documentation of f32. No function of the project is run, and no float is used. The
 vectors of hypot and rem_euclid are computed a second time, with decimal numbers of many digits, and the script
-fails where the two differ. The vectors of `candidates`, and two of hypot, are document 01's.
+fails where the two differ. The vectors of `candidates`, and two of hypot, are document 01's; others of hypot are
+CPython's, with the results that its test data has, and the script fails where the definition gives another.
 
 The choice of the operands is the same at each run: those that look random come from a generator that is
 written out below. Where the C library can be loaded, the script also says at how many vectors of hypot its
@@ -263,6 +264,9 @@ def cross_check(rows_of):
     for x, y, _ in rows_of["rem_euclid"]:
         if second_rem_euclid(x, y) != expect_rem_euclid(x, y):
             sys.exit(f"the two ways differ at rem_euclid of {x:#010x} and {y:#010x}")
+    for name, x, y, root in carried():
+        if expect_hypot(x, y) != root:
+            sys.exit(f"CPython's {name} has another result than the definition of hypot")
 
 
 # ---- operands: a row is the operands and a label ----
@@ -660,7 +664,7 @@ def all_rows():
 
 FILL = of_decimal("7")  # what each place of the list holds before a call
 PLACES = 16  # how many places the list has
-FILLED, REFUSAL, FILLED_AT, ANSWERED, ANSWERED_AT = 13, 14, 15, 16, 17  # the functions' numbers
+FILLED, REFUSAL, FILLED_AT, ANSWERED, ANSWERED_AT, LEFT_AT = 13, 14, 15, 16, 17, 18  # the functions' numbers
 
 
 def floats(text):
@@ -698,16 +702,94 @@ def document_01():
         rows = [(FILLED, *asked, lent, 0, len(want)), (REFUSAL, *asked, lent, 0, refusal)]
         rows += [(FILLED_AT, *asked, lent, k, p) for k, p in enumerate(places)]
         out += labelled(f"candidates, {why}", rows)
-    # the part that the entry answers
-    asked, want = floats("-5 -6.75 -0.25 2"), floats("-5 -3 -1")
-    rows = [(ANSWERED, *asked, PLACES, 0, len(want))]
-    rows += [(ANSWERED_AT, *asked, PLACES, k, p) for k, p in enumerate(want)]
-    out += labelled("candidates, the part", rows)
+    # the part that the entry answers, and the list after it, whose rest is kept; on a refusal all of it
+    for query, candidates in (("-5 -6.75 -0.25 2", "-5 -3 -1"), ("-5 -6.75 -0.25 nan", "")):
+        asked, want = floats(query), floats(candidates)
+        rows = [(ANSWERED, *asked, PLACES, 0, len(want))]
+        rows += [(ANSWERED_AT, *asked, PLACES, k, p) for k, p in enumerate(want)]
+        rows += [(LEFT_AT, *asked, PLACES, k, p) for k, p in enumerate(want + [FILL] * (PLACES - len(want)))]
+        out += labelled("candidates, the part", rows)
     # 8,200 places always do
     out.append((REFUSAL, *floats("0 -64 64 0.015625"), 8200, 0, 0, "candidates, 8200 lent"))
     hypot = LEAVES["hypot"][0]
     out.append((hypot, *floats("3 4"), 0, 0, 0, 0, of_decimal("5"), "hypot of 3 and 4"))
     out.append((hypot, 0, SIGN, 0, 0, 0, 0, 0, "hypot of 0 and -0"))
+    return out
+
+
+# ---- published vectors of hypot ----
+
+# From CPython's test data, which is for binary64: Python 3.11.2, in Debian's libpython3.11-testsuite; copyright
+# 2001-2023 Python Software Foundation, PSF licence version 2. A line here is a name, two operands and the result.
+# - cmath_testcases.txt: each line of `polar`, with its first result, the modulus. By the file's comment that is cabs of
+#   C99's Annex G, which is hypot. The second result, the argument, is left out. The file has no lines of `abs`.
+# - testHypot in test_math.py: the calls with two finite operands whose result is written as a number, each once. Those
+#   with an infinity or a NaN say the same as lines of `polar`.
+CPYTHON = """
+polar0100 1.4e308 1.4e308 inf
+polar1000 0.0 0.0 0.0
+polar1001 0.0 -0.0 0.0
+polar1002 -0.0 0.0 0.0
+polar1003 -0.0 -0.0 0.0
+polar1004 inf 0.0 inf
+polar1005 inf 2.3 inf
+polar1006 inf inf inf
+polar1007 2.3 inf inf
+polar1008 0.0 inf inf
+polar1009 -0.0 inf inf
+polar1010 -2.3 inf inf
+polar1011 -inf inf inf
+polar1012 -inf 2.3 inf
+polar1013 -inf 0.0 inf
+polar1014 -inf -0.0 inf
+polar1015 -inf -2.3 inf
+polar1016 -inf -inf inf
+polar1017 -2.3 -inf inf
+polar1018 -0.0 -inf inf
+polar1019 0.0 -inf inf
+polar1020 2.3 -inf inf
+polar1021 inf -inf inf
+polar1022 inf -2.3 inf
+polar1023 inf -0.0 inf
+polar1024 nan -inf inf
+polar1025 nan -2.3 nan
+polar1026 nan -0.0 nan
+polar1027 nan 0.0 nan
+polar1028 nan 2.3 nan
+polar1029 nan inf inf
+polar1030 nan nan nan
+polar1031 inf nan inf
+polar1032 2.3 nan nan
+polar1033 0.0 nan nan
+polar1034 -0.0 nan nan
+polar1035 -2.3 nan nan
+polar1036 -inf nan inf
+testHypot 12.0 5.0 13.0
+testHypot 0.375 0.15625 0.40625
+"""
+SPECIAL_WORDS = {"inf": INF, "-inf": INF + SIGN, "nan": NAN}
+
+
+def is_f32(word):
+    """Whether a published number is an f32 as it stands."""
+    return word in SPECIAL_WORDS or Fraction(whole(of_decimal(word)), 2**149) == Fraction(word)
+
+
+def carries_over(x, y, root):
+    """Whether a vector for binary64 holds for binary32 too: all its numbers are f32s; or an operand is an infinity
+    or a NaN, beside which the digits of a finite operand do not count, and that operand is finite after rounding too.
+    polar0100 does not carry over: its operands are no f32s, and the f32 nearest to them is an infinity."""
+    if any(word in SPECIAL_WORDS for word in (x, y)):
+        return root in SPECIAL_WORDS and all(w in SPECIAL_WORDS or magnitude(of_decimal(w)) < INF for w in (x, y))
+    return all(is_f32(word) for word in (x, y, root))
+
+
+def carried():
+    """CPython's vectors that carry over: the name, the operands and the root as patterns."""
+    out = []
+    for name, *words in map(str.split, CPYTHON.strip().splitlines()):
+        if carries_over(*words):
+            out.append((name, *(SPECIAL_WORDS[w] if w in SPECIAL_WORDS else of_decimal(w) for w in words)))
     return out
 
 
@@ -718,13 +800,15 @@ WIDTH = 8  # the numbers of a vector: its function's, six operands and what is e
 
 
 def vectors(rows_of):
-    """All vectors, each with its label: the computed ones, then document 01's."""
+    """All vectors, each with its label: the computed ones, then document 01's, then CPython's."""
     out = []
     for leaf, (number, expect, _) in LEAVES.items():
         for *operands, label in rows_of[leaf]:
             unused = [0] * (WIDTH - 2 - len(operands))
             out.append((number, *operands, *unused, expect(*operands), f"{leaf}, {label}"))
     out += document_01()
+    hypot = LEAVES["hypot"][0]
+    out += [(hypot, x, y, 0, 0, 0, 0, root, f"hypot, CPython's {name}") for name, x, y, root in carried()]
     assert all(len(vector) == WIDTH + 1 for vector in out)
     return out
 
@@ -776,7 +860,8 @@ def main():
         elif not file.is_file() or file.read_text() != text:
             print("not as made:", name)
             wrong = 1
-    print(", ".join(f"{leaf} {len(rows)}" for leaf, rows in rows_of.items()), f"and document 01's {len(document_01())}")
+    print(", ".join(f"{leaf} {len(rows)}" for leaf, rows in rows_of.items()))
+    print(f"document 01's {len(document_01())}, CPython's {len(carried())} of {len(CPYTHON.split()) // 4}")
     print(compare_with_libm(rows_of["hypot"]))
     return wrong
 

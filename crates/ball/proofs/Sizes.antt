@@ -16,7 +16,13 @@ use Rattle.floats.proofs.Laws.Order.{lt→<, le→≤, le-trans-f, posZero-numb
 use Rattle.floats.proofs.Laws.Rounding.{finite-number, add-number, add-mono, add-exact}
 use Rattle.floats.proofs.Laws.Products.{mul-mono}
 use Rattle.game.specs.declared.FieldDimensions.{FieldDimensions}
-use Rattle.ball.specs.Turned.{Sized}
+
+-- the field's length and the ball's radius are not below zero, nor infinite
+pub record Sized (f : FieldDimensions) : Type 0 where
+  pub length-finite : Finite binary32 (f .length)
+  pub radius-finite : Finite binary32 (f .«ball_radius»)
+  pub length-least : le posZero (f .length) ≡ true
+  pub radius-least : le posZero (f .«ball_radius») ≡ true
 
 -- where the middle of a ball is past the goal line
 abbrev pub goalLineEdge : FieldDimensions → Float

@@ -33,11 +33,11 @@ use Rattle.geometry.specs.Geometry.{sideToSign}
 use Rattle.geometry.specs.Turned.{signed, changedBall, exchanged, changedEnds, changedGame}
 use Rattle.geometry.proofs.Turned.{abs-changed, team-changed, sign-changed}
 use Rattle.ball.specs.Ball.{judgeGoal, pastGoalLine, pastTouchline, inGoal, defenderOf, defendingSide, shotTaken, judgeShot, judgeShootout, playersOf, throwInSide, judgeHalf, judgePlay, isRunning, ballJudgment}
-use Rattle.ball.specs.Turned.{Sized, isZero, isNone, isInPlay, isBetweenHalves, isExcepted}
+use Rattle.ball.specs.Turned.{isZero, isNone, isInPlay, isBetweenHalves, isExcepted}
 use Rattle.game.specs.declared.BallJudgment.{BallJudgment}
 use Rattle.game.specs.declared.BallJudgment.the-variants.{NoJudgment, ThrowIn}
 use Rattle.ball.specs.declared.GoalJudgment.{GoalJudgment}
-use Rattle.ball.proofs.Sizes.{goalLineEdge, middle-inside}
+use Rattle.ball.proofs.Sizes.{Sized, goalLineEdge, middle-inside}
 
 -- ---- where the ball is
 past-goal-line-changed : (a b : Bool) (f : FieldDimensions) (ball : Ball) → pastGoalLine f (changedBall a b ball) ≡ pastGoalLine f ball

@@ -29,8 +29,8 @@ use Rattle.ball.specs.declared.GoalJudgment.{GoalJudgment}
 use Rattle.ball.specs.declared.GoalJudgment.the-variants.{ValidGoal, Instead}
 
 -- ---- goals
--- A team may score directly from its restart, but not from a kick-off or an indirect free kick, unless its kicker touched the ball again as the rule
--- allows a team with at most two players on the field.
+-- A team may score before another player has touched the ball: from a kick-off with at most two players on the field, once its kicker touched the ball outside the center circle,
+-- be it with the first touch; from an indirect restart once the Restart record says that its kicker touched the ball again far from the kick.
 abbrev pub mayScore : RestartKind → Restart → ℕ → Bool
 mayScore KickOff r players = r .«kicker_touched_outside_center_circle» && leb players 2
 mayScore Indirect r players = r .«kicker_touched_far_from_kick»

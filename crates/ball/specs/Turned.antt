@@ -1,9 +1,7 @@
--- What the judgments of the field turned half round need, and the one that the turn changes. Definitions only.
-use mathlib.Core.Path.{_≡_}
+-- The one judgment that the half turn changes. Definitions only.
 use mathlib.Core.Bool.{Bool, true, false, not, _&&_}
-use lib.Ieee.{Float, binary32, eq, le}
+use lib.Ieee.{Float, eq}
 use Rattle.floats.specs.Arithmetic.{zero32}
-use Rattle.floats.specs.Values.{posZero, Finite}
 use Rattle.game.specs.Game.{isShootout}
 use Rattle.game.specs.declared.Ball.{Ball}
 use Rattle.game.specs.declared.FieldDimensions.{FieldDimensions}
@@ -12,14 +10,6 @@ use Rattle.game.specs.declared.MaybeSide.{MaybeSide}
 use Rattle.game.specs.declared.MaybeSide.the-variants.{NoSide, Of}
 use Rattle.ball.specs.Ball.{isRunning, pastTouchline}
 
--- the field's length and the ball's radius are not below zero, nor infinite
-pub record Sized (f : FieldDimensions) : Type 0 where
-  pub length-finite : Finite binary32 (f .length)
-  pub radius-finite : Finite binary32 (f .«ball_radius»)
-  pub length-least : le posZero (f .length) ≡ true
-  pub radius-least : le posZero (f .«ball_radius») ≡ true
-
--- ---- the one judgment that the half turn changes
 -- +0 or -0
 abbrev pub isZero : Float → Bool
 isZero x = eq x zero32

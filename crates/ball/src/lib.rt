@@ -20,7 +20,8 @@ pub enum GoalJudgment {
     Instead(BallJudgment),
 }
 
-// Whether a team may score directly from its restart. In a kick-off and an indirect free kick only a small team may, after a second touch.
+// Whether a team may score before another player has touched the ball. From a kick-off a team with at most two players may, once its kicker, with the first touch or a later one, has touched
+// the ball outside the center circle; from an indirect restart, once it has touched it again far from the kick, which the Restart record tells of small teams alone.
 fn may_score(restart: Restart, players_of_scoring_side: usize) -> bool
     ensures { λ r. ⌜ r ≡ Spec.mayScore (restart .kind) restart «players_of_scoring_side» ⌝ }
 {

@@ -14,8 +14,7 @@ use Rattle.lists.proofs.Refusals.{refusal-append}
 use Rattle.game.specs.declared.Decision.{Decision}
 use Rattle.game.specs.declared.Situation.{Situation}
 use Rattle.refusals.specs.Refusals.{conditionsOf, refusalOf}
-use Rattle.decision.specs.Decision.{decisionOf, emptyDecision, answerOf}
-use Rattle.decision.specs.declared.call.Answer.{Answer}
+use Rattle.decision.specs.Decision.{decisionOf}
 use Rattle.sheet.specs.Sheet.{bytesIn, answered, textOf, roomFor, decisionAnswer, decisionSheet}
 use Rattle.sheet.specs.declared.text.SheetAnswer.{SheetAnswer}
 use Rattle.sheet.specs.declared.text.SheetAnswer.the-variants.{Refused, Written}
@@ -69,29 +68,23 @@ module _ (s : Situation) (xs ys : List Float) where
       go false = omega arith
 
 -- ---- what the code leaves
-module _ (s : Situation) (xs ys : List Float) (a : Answer) (told : a ≡ answerOf s xs ys) where
-  refusal-told : a .refusal ≡ refusalOf s xs ys
-  unfolding answerOf
-  refusal-told = ap (λ (z : Answer). z .refusal) told
-
+module _ (s : Situation) (xs ys : List Float) (n : ℕ) (told : n ≡ refusalOf s xs ys) where
   -- the situation was refused
-  pub sheet-refused : (sheet : List ℕ) → (a .refusal ≡ 0 → ⊥) → (Refused (a .refusal) ≡ sheetAnswer s xs ys (length sheet)) × (sheet ≡ sheetAfter s xs ys sheet)
+  pub sheet-refused : (sheet : List ℕ) → (n ≡ 0 → ⊥) → (Refused n ≡ sheetAnswer s xs ys (length sheet)) × (sheet ≡ sheetAfter s xs ys sheet)
   sheet-refused sheet h =
-      let no : eqb (refusalOf s xs ys) 0 ≡ false = ne-eqb _ _ (λ e. h (refusal-told ∙ e)) in (
-        ap Refused refusal-told
+      let no : eqb (refusalOf s xs ys) 0 ≡ false = ne-eqb _ _ (λ e. h (told ∙ e)) in (
+        ap Refused told
             ∙ sym (answer-told s xs ys (length sheet) ∙ ap (λ (b : Bool). cond b (decisionAnswer (decisionOf s xs ys) (length sheet)) (Refused (refusalOf s xs ys))) no),
         sym (after-told s xs ys sheet ∙ ap (λ (b : Bool). cond b (decisionSheet (decisionOf s xs ys) sheet) sheet) no),
       )
 
   -- it was not
-  pub sheet-decided : (sheet next : List ℕ) (r : SheetAnswer) → a .refusal ≡ 0 → r ≡ decisionAnswer (a .decision) (length sheet) → next ≡ decisionSheet (a .decision) sheet
+  pub sheet-decided : (d : Decision) (sheet next : List ℕ) (r : SheetAnswer) → n ≡ 0 → d ≡ decisionOf s xs ys → r ≡ decisionAnswer d (length sheet) → next ≡ decisionSheet d sheet
       → (r ≡ sheetAnswer s xs ys (length sheet)) × (next ≡ sheetAfter s xs ys sheet)
-  unfolding answerOf
-  sheet-decided sheet next r h e p =
-      let yes : eqb (refusalOf s xs ys) 0 ≡ true = eq-eqb _ _ (sym refusal-told ∙ h) in
-      let same : a .decision ≡ decisionOf s xs ys = ap (λ (z : Answer). z .decision) told ∙ ap (λ (b : Bool). cond b (decisionOf s xs ys) emptyDecision) yes in (
+  sheet-decided d sheet next r h same e p =
+      let yes : eqb (refusalOf s xs ys) 0 ≡ true = eq-eqb _ _ (sym told ∙ h) in (
         e
-            ∙ ap (λ (d : Decision). decisionAnswer d (length sheet)) same
+            ∙ ap (λ (z : Decision). decisionAnswer z (length sheet)) same
             ∙ sym (answer-told s xs ys (length sheet) ∙ ap (λ (b : Bool). cond b (decisionAnswer (decisionOf s xs ys) (length sheet)) (Refused (refusalOf s xs ys))) yes),
-        p ∙ ap (λ (d : Decision). decisionSheet d sheet) same ∙ sym (after-told s xs ys sheet ∙ ap (λ (b : Bool). cond b (decisionSheet (decisionOf s xs ys) sheet) sheet) yes),
+        p ∙ ap (λ (z : Decision). decisionSheet z sheet) same ∙ sym (after-told s xs ys sheet ∙ ap (λ (b : Bool). cond b (decisionSheet (decisionOf s xs ys) sheet) sheet) yes),
       )

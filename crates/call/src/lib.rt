@@ -11,11 +11,10 @@ pub fn write_sheet<'a>(s: Situation, xs: &'a [f32], ys: &'a [f32], sheet: &mut [
     ensures { λ r. ⌜ r ≡ Spec.sheetAnswer s (now (xs .entry)) (now (ys .entry)) (length (now (sheet .entry))) ⌝ }
     ensures { λ _. ⌜ now (sheet .exit) ≡ Spec.sheetAfter s (now (xs .entry)) (now (ys .entry)) (now (sheet .entry)) ⌝ }
 {
-    let answer = decision::decide(s, xs, ys);
-    let refusal = answer.refusal;
+    let refusal = refusals::refusal(s, xs, ys);
     if refusal != 0 {
         return SheetAnswer::Refused(refusal);
     }
-    let d = answer.decision;
+    let d = decision::decision_of(s, xs, ys);
     sheet::write_decision(d, sheet)
 }

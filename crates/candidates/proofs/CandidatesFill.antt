@@ -11,9 +11,12 @@ use lib.Seq.{take-at}
 use lib.Ieee.{Float, le}
 use Rattle.lists.specs.Gather.{flatTo, onlyIf}
 use Rattle.lists.specs.Put.{countIf, putIf, fronted}
+use Rattle.lists.proofs.Gather.{flat-le}
 use Rattle.lists.proofs.Part.{part-back}
 use Rattle.lists.proofs.Put.{put-one}
-use Rattle.spacing.specs.Spacing.{down-by, up-by, placesAt}
+use Rattle.floats.specs.Arithmetic.{_+₃₂_, _-₃₂_, _*₃₂_}
+use Rattle.floats.specs.Leaves.{ofCount}
+use Rattle.spacing.specs.Spacing.{placesAt}
 
 -- ---- room
 -- a count does not fall
@@ -38,7 +41,50 @@ rooms a b n len h = room a n len (first-room a b n len h)
 pub room-after : (b : Bool) (n n' len len' : ℕ) → n' ≡ n → len' ≡ len → countIf b n ≤ len → (b ≡ true → n' < len') × (n' ≤ len')
 room-after b n n' len len' e l h = room b n' len' (subst (λ (k : ℕ). countIf b k ≤ len') (sym e) (subst (λ (k : ℕ). countIf b n ≤ k) (sym l) h))
 
+-- what a turn adds, by its number as the code has it in hand
+pub turn-adds : (first min max step v : Float) (k : ℕ) → v ≡ ofCount (k + 1)
+    → placesAt first min max step k ≡ onlyIf (le min (first -₃₂ v *₃₂ step)) (first -₃₂ v *₃₂ step) ++ onlyIf (le (first +₃₂ v *₃₂ step) max) (first +₃₂ v *₃₂ step)
+turn-adds first min max step v k d =
+    sym (ap (λ (x : Float). onlyIf (le min (first -₃₂ x *₃₂ step)) (first -₃₂ x *₃₂ step) ++ onlyIf (le (first +₃₂ x *₃₂ step) max) (first +₃₂ x *₃₂ step)) (rw add-one at d))
+
 module _ {A : Type 0} where
+  -- ---- puts at the end of the front
+  -- the count after one put
+  count-some : (l : List A) (a : Bool) (x : A) (n : ℕ) → n ≡ length l → countIf a n ≡ length (l ++ onlyIf a x)
+  count-some l true x n e = ap (λ (k : ℕ). k + 1) e ∙ sym (length-append l (x ∷ []))
+  count-some l false x n e = e ∙ ap length (sym (append-nil l))
+
+  -- the list after one put
+  put-some : (l s cur : List A) (a : Bool) (x : A) (n : ℕ) → countIf a n ≤ length s → cur ≡ fronted l s → n ≡ length l → putIf a cur n x ≡ fronted (l ++ onlyIf a x) s
+  put-some l s cur true x n h e en = ap₂ (λ (t : List A) (k : ℕ). set t k x) e en ∙ put-one l s x (omega (arith, h, en))
+  put-some l s cur false x n h e en = e ∙ ap (λ (t : List A). fronted t s) (sym (append-nil l))
+
+  -- a turn of two puts
+  module _ (f : ℕ → List A) (a b : Bool) (x y : A) (i n : ℕ) (adds : f i ≡ onlyIf a x ++ onlyIf b y) (en : n ≡ length (flatTo i f)) where
+    -- what stands at the front after it
+    grown : (flatTo i f ++ onlyIf a x) ++ onlyIf b y ≡ flatTo (i + 1) f
+    unfolding flatTo
+    grown = append-assoc (flatTo i f) (onlyIf a x) (onlyIf b y) ∙ ap (λ (t : List A). flatTo i f ++ t) (sym adds) ∙ ap (λ (k : ℕ). flatTo k f) (sym (add-one i))
+
+    -- the count after it
+    pub count-two : countIf b (countIf a n) ≡ length (flatTo (i + 1) f)
+    count-two = count-some (flatTo i f ++ onlyIf a x) b y (countIf a n) (count-some (flatTo i f) a x n en) ∙ ap length grown
+
+    -- where all turns have room, it has
+    pub turn-room : (m len : ℕ) → i < m → length (flatTo m f) ≤ len → countIf b (countIf a n) ≤ len
+    unfolding flatTo
+    turn-room m len l h =
+        let longer = ap (λ (k : ℕ). length (flatTo k f)) (add-one i) ∙ length-append (flatTo i f) (f i) in
+        omega (arith, count-two, longer, flat-le f i m l)
+
+    -- the list after it
+    pub put-two : (s cur next : List A) → countIf b (countIf a n) ≤ length s → cur ≡ fronted (flatTo i f) s → next ≡ putIf b (putIf a cur n x) (countIf a n) y → next ≡ fronted (flatTo (i + 1) f) s
+    put-two s cur next h e p =
+        p
+        ∙ put-some (flatTo i f ++ onlyIf a x) s (putIf a cur n x) b y (countIf a n) h (put-some (flatTo i f) s cur a x n (first-room a b n (length s) h) e en) (count-some (flatTo i f) a x n en)
+        ∙ ap (λ (t : List A). fronted t s) grown
+
+  -- ---- a front
   -- a list keeps its length when its front is replaced
   pub length-fronted : (l s : List A) → length l ≤ length s → length (fronted l s) ≡ length s
   unfolding fronted
@@ -65,29 +111,3 @@ module _ {A : Type 0} where
   -- the same list with another name for what was put
   pub filled-as : (l answer s out : List A) (n : ℕ) → l ≡ answer → n ≡ length l → out ≡ fronted l s → (n ≡ length answer) × (out ≡ fronted answer s)
   filled-as l answer s out n e a b = (a ∙ ap length e, b ∙ ap (λ (t : List A). fronted t s) e)
-
-  -- ---- puts at the end of the front
-  -- one put: the list and the count
-  put-some : (l s cur : List A) (a : Bool) (x : A) (n : ℕ) → countIf a n ≤ length s → cur ≡ fronted l s → n ≡ length l → (putIf a cur n x ≡ fronted (l ++ onlyIf a x) s) × (countIf a n ≡ length (l ++ onlyIf a x))
-  put-some l s cur true x n h e en =
-      (ap₂ (λ (t : List A) (k : ℕ). set t k x) e en ∙ put-one l s x (omega (arith, h, en)), ap (λ (k : ℕ). k + 1) en ∙ sym (length-append l (x ∷ [])))
-  put-some l s cur false x n h e en = (e ∙ ap (λ (t : List A). fronted t s) (sym (append-nil l)), en ∙ ap length (sym (append-nil l)))
-
-  -- two puts
-  pub put-two : (l s cur next : List A) (a b : Bool) (x y : A) (n : ℕ) → countIf b (countIf a n) ≤ length s → cur ≡ fronted l s → n ≡ length l → next ≡ putIf b (putIf a cur n x) (countIf a n) y
-      → next ≡ fronted (l ++ (onlyIf a x ++ onlyIf b y)) s
-  put-two l s cur next a b x y n h e en p =
-      let one = put-some l s cur a x n (first-room a b n (length s) h) e en in
-      let two = put-some (l ++ onlyIf a x) s (putIf a cur n x) b y (countIf a n) h (one .0) (one .1) in
-      p ∙ two .0 ∙ ap (λ (t : List A). fronted t s) (append-assoc l (onlyIf a x) (onlyIf b y))
-
--- a turn of the fill, by its two places
-pub put-grows : (first min max step lower upper : Float) (k n : ℕ) (s cur next : List Float) → lower ≡ down-by first step (k + 1) → upper ≡ up-by first step (k + 1) → countIf (le upper max) (countIf (le min lower) n) ≤ length s
-    → cur ≡ fronted (flatTo k (placesAt first min max step)) s → n ≡ length (flatTo k (placesAt first min max step)) → next ≡ putIf (le upper max) (putIf (le min lower) cur n lower) (countIf (le min lower) n) upper
-    → next ≡ fronted (flatTo (k + 1) (placesAt first min max step)) s
-unfolding flatTo
-put-grows first min max step lower upper k n s cur next d u h e en p =
-    let f = placesAt first min max step in
-    put-two (flatTo k f) s cur next (le min lower) (le upper max) lower upper n h e en p
-    ∙ ap₂ (λ (x y : Float). fronted (flatTo k f ++ (onlyIf (le min x) x ++ onlyIf (le y max) y)) s) (rw add-one at d) (rw add-one at u)
-    ∙ ap (λ (i : ℕ). fronted (flatTo i f) s) (sym (add-one k))

@@ -1,4 +1,2 @@
-pub mod CandidatesWalk
+pub mod CandidatesAnswer
 pub mod CandidatesFill
-pub mod CandidatesList
-pub mod CandidatesEnd

@@ -132,7 +132,7 @@ fn case_a() -> Situation {
         ball,
         last_contact,
         restart,
-        invalid_goals_judged: true,
+        invalid_goals_judged: false,
         ball_rested: false,
         wish,
     }

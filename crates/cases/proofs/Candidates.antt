@@ -11,10 +11,12 @@ use lib.Ieee.{Float, fin, neg}
 use Rattle.lists.specs.Gather.{flatTo}
 use Rattle.floats.specs.Arithmetic.{zero32}
 use Rattle.lists.specs.Refusals.{firstRefusal}
-use Rattle.candidates.specs.Candidates.{crossed, candidatesTo, candidatesOf, unfit, conditions, refusalOf, answerOf}
-use Rattle.candidates.proofs.CandidatesEnd.{break-is-the-end}
+use Rattle.tries.specs.Tries.{crossed, candidatesTo, candidatesOf, unfit}
+use Rattle.tries.proofs.CandidatesEnd.{break-is-the-end}
+use Rattle.candidates.specs.Candidates.{conditions, refusalOf, answerOf}
+use Rattle.cases.specs.Field.{_over_}
+use Rattle.cases.specs.Candidates.{start, least, greatest, CandidateCases}
 use Rattle.cases.proofs.Opened.{floats}
-use Rattle.cases.proofs.Field.{_over_}
 
 -- the refusal and the answer where the list l is known and refusal 5 does not apply
 module _ (start min max step : Float) (lent : ℕ) (l : List Float) (known : candidatesOf start min max step ≡ l) (fit : unfit start min max step ≡ false) where
@@ -27,15 +29,6 @@ module _ (start min max step : Float) (lent : ℕ) (l : List Float) (known : can
   known-answer = ap₂ (λ (r : ℕ) (m : List Float). cond (eqb r 0) m []) known-refusal known
 
 -- ---- from -5, between -6.75 and -0.25
-abbrev start : Float
-start = neg (5 over 1)
-
-abbrev least : Float
-least = neg (27 over 4)
-
-abbrev greatest : Float
-greatest = neg (1 over 4)
-
 -- by 2, in two turns: -5, -3, -1
 abbrev threeByTwo : List Float
 threeByTwo = start ∷ neg (3 over 1) ∷ neg (1 over 1) ∷ []
@@ -84,20 +77,12 @@ unfolding answerOf refusalOf unfit candidatesTo crossed floats
 lent-crossed = refl
 
 -- ---- refusals
--- three places needed and two lent: refusal 6; three lent: none
-two-lent : refusalOf start least greatest (2 over 1) 2 ≡ 6
-unfolding crossed unfit floats
-two-lent = known-refusal start least greatest (2 over 1) 2 threeByTwo by-2 refl
-
-three-lent : refusalOf start least greatest (2 over 1) 3 ≡ 0
-unfolding crossed unfit floats
-three-lent = known-refusal start least greatest (2 over 1) 3 threeByTwo by-2 refl
-
--- a step of 0.01: refusal 5, also where there is no room; and none where the bounds are crossed
-fine-step : refusalOf start least greatest (1 over 100) 0 ≡ 5
-unfolding refusalOf unfit crossed floats
-fine-step = refl
-
-fine-step-crossed : refusalOf zero32 (1 over 1) (neg (1 over 1)) (1 over 100) 1 ≡ 0
+pub candidate-cases : CandidateCases
 unfolding refusalOf unfit candidatesTo crossed floats
-fine-step-crossed = refl
+candidate-cases =
+    record {
+      two-lent = known-refusal start least greatest (2 over 1) 2 threeByTwo by-2 refl;
+      three-lent = known-refusal start least greatest (2 over 1) 3 threeByTwo by-2 refl;
+      fine-step = refl;
+      fine-step-crossed = refl;
+    }

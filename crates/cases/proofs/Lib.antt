@@ -1,8 +1,7 @@
 pub mod Opened
-pub mod Field
-pub mod CaseA
 pub mod Candidates
 pub mod Table
+pub mod HalfTurn
 pub mod Excess
 pub mod Kicker
 pub mod Places

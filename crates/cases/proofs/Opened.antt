@@ -9,7 +9,7 @@ use Rattle.game.specs.Players.{listed, numbersWhere}
 use Rattle.geometry.specs.Geometry.{marginsOf, computeMargins}
 use Rattle.avoidance.specs.Avoidance.{isInAvoidanceRegion, isAvoidanceRegionActive}
 use Rattle.positioning.specs.Positioning.{isIllegallyPositioned, kickOffVerdict, attackVerdict, defenceVerdict}
-use Rattle.candidates.specs.Candidates.{crossed, candidatesTo, unfit, firstCandidate}
+use Rattle.tries.specs.Tries.{crossed, candidatesTo, unfit, firstCandidate}
 use Rattle.lists.specs.Counting.{countTo, firstTo}
 use Rattle.counts.specs.Counts.{playersOnField}
 use Rattle.excess.specs.Excess.{goalAreaExcess}

@@ -13,9 +13,10 @@ use Rattle.floats.proofs.Laws.Rounding.{finite-number}
 use Rattle.floats.proofs.Laws.Within.{finite-within}
 use Rattle.game.specs.declared.Ball.{Ball}
 use Rattle.game.specs.declared.FieldDimensions.{FieldDimensions}
-use Rattle.places.specs.Turned.{Located}
-use Rattle.ball.specs.Turned.{Sized}
+use Rattle.places.proofs.Turned.{Located}
+use Rattle.ball.proofs.Sizes.{Sized}
 use Rattle.refusals.specs.Refusals.{within, isSize, isCoordinate, fieldFits, ballFits}
+use Rattle.refusals.proofs.Accepted.{field-ranges}
 
 -- ---- from a range to a number within 64
 pub between : (lo x hi : Float) → T (fits binary32 x) → within lo x hi ≡ true → Number binary32 x
@@ -49,31 +50,6 @@ ball-located o f g e =
     record { x-number = coordinate-within (o .x) f (q .0) .number; y-number = coordinate-within (o .y) g (q .1) .number }
 
 -- ---- the field
--- the ranges that the laws ask for
-pub record Ranges (f : FieldDimensions) : Type 0 where
-  pub length-range : within four (f .length) sixtyFour ≡ true
-  pub width-range : within four (f .width) sixtyFour ≡ true
-  pub border-range : isSize (f .«border_strip_width») ≡ true
-  pub radius-range : isSize (f .«ball_radius») ≡ true
-
-pub field-ranges : (f : FieldDimensions) → fieldFits f ≡ true → Ranges f
-unfolding fieldFits
-field-ranges f e =
-    let a = both-true _ _ e in
-    let b = both-true _ _ (a .0) in
-    let c = both-true _ _ (b .0) in
-    let d = both-true _ _ (c .0) in
-    let g = both-true _ _ (d .0) in
-    let h = both-true _ _ (g .0) in
-    let i = both-true _ _ (h .0) in
-    let j = both-true _ _ (i .0) in
-    let k = both-true _ _ (j .0) in
-    let l = both-true _ _ (k .0) in
-    let m = both-true _ _ (l .0) in
-    let n = both-true _ _ (m .0) in
-    let o = both-true _ _ (n .0) in
-    record { length-range = o .0; width-range = o .1; border-range = d .1; radius-range = a .1 }
-
 pub field-sized : (f : FieldDimensions) → T (fits binary32 (f .length)) → T (fits binary32 (f .«ball_radius»)) → fieldFits f ≡ true → Sized f
 unfolding ofBits isNan le neg
 field-sized f g h e =

@@ -28,9 +28,8 @@ use Rattle.penalty.proofs.Turned.{sized-place-changed}
 use Rattle.refusals.specs.Refusals.{fieldFits, numbersFit, wishFits, distanceFits, five, conditionsOf, refusalOf}
 use Rattle.refusals.proofs.Refused.{poses-fit-changed, ball-fits-changed}
 use Rattle.decision.specs.Decision.{ballCalled, placeFor, wishedPlace, sideMargins, kickingPlayer, decisionOf}
-use Rattle.decision.specs.Fit.{Fit}
-use Rattle.decision.specs.Changed.{changed, changedPlaces, keepsHeading, ChangedDecision, isExceptedBy, ExceptedBy}
-use Rattle.decision.proofs.Parts.{Parts, parts}
+use Rattle.decision.specs.Changed.{changed, changedPlaces, keepsHeading, ChangedDecision, isExceptedBy, ExceptedBy, SignChangeClaim, MirrorImageClaim}
+use Rattle.decision.proofs.Parts.{Parts, parts, accepted-in-range}
 use Rattle.decision.proofs.Sides.{team-of-changed, side-margins-changed, side-same, kicking-changed}
 
 -- ---- the changed situation is accepted as the situation is
@@ -93,25 +92,19 @@ module _ (a b : Bool) (s : Situation) (xs ys : List Float) (p : Parts s) where
   unfolding decisionOf
   same e = record { home = side-same a b s Home; away = side-same a b s Away; kicker = kicker-same; ball = ball-same e; place = place-same }
 
-  differs : ExceptedBy a s → ChangedDecision a b (s .wish) (decisionOf s xs ys) (decisionOf (changed a b s) (changedPlaces a xs) (changedPlaces b ys)) → ⊥
+  -- the theorem from its parts, both directions: of allowances, reference poses, distance and earlier places nothing is asked
+  pub equal-only-if-parts : ChangedDecision a b (s .wish) (decisionOf s xs ys) (decisionOf (changed a b s) (changedPlaces a xs) (changedPlaces b ys)) → ExceptedBy a s → ⊥
   unfolding decisionOf
-  differs e d = ball-differs e (d .ball)
+  equal-only-if-parts d e = ball-differs e (d .ball)
+
+  pub equal-if-parts : (ExceptedBy a s → ⊥) → ChangedDecision a b (s .wish) (decisionOf s xs ys) (decisionOf (changed a b s) (changedPlaces a xs) (changedPlaces b ys))
+  equal-if-parts n = same (by-test (isExceptedBy a s) (λ x. absurd (n x)) (λ x. x))
 
 -- ---- the theorem
-pub record SignChange (a b : Bool) (s : Situation) (xs ys : List Float) : Type 0 where
-  pub accepted-too : refusalOf (changed a b s) (changedPlaces a xs) (changedPlaces b ys) ≡ 0
-  pub equal-only-if : ChangedDecision a b (s .wish) (decisionOf s xs ys) (decisionOf (changed a b s) (changedPlaces a xs) (changedPlaces b ys)) → ExceptedBy a s → ⊥
-  pub equal-if : (ExceptedBy a s → ⊥) → ChangedDecision a b (s .wish) (decisionOf s xs ys) (decisionOf (changed a b s) (changedPlaces a xs) (changedPlaces b ys))
-
-pub changed-decision : (a b : Bool) (s : Situation) (xs ys : List Float) → Fit s xs ys → refusalOf s xs ys ≡ 0 → SignChange a b s xs ys
+pub changed-decision : SignChangeClaim
 changed-decision a b s xs ys f e =
-    let p = parts s xs ys f e in
-    record {
-      accepted-too = refusal-changed a b s xs ys ∙ e;
-      equal-only-if = λ d x. differs a b s xs ys p x d;
-      equal-if = λ n. same a b s xs ys p (by-test (isExceptedBy a s) (λ x. absurd (n x)) (λ x. x));
-    }
+    let p = parts s f (accepted-in-range s xs ys e) in
+    record { accepted-too = refusal-changed a b s xs ys ∙ e; equal-only-if = equal-only-if-parts a b s xs ys p; equal-if = equal-if-parts a b s xs ys p }
 
--- where x keeps its sign, as in a mirror image in y, there is no exception
-pub mirror-image : (b : Bool) (s : Situation) (xs ys : List Float) → Fit s xs ys → refusalOf s xs ys ≡ 0 → ChangedDecision false b (s .wish) (decisionOf s xs ys) (decisionOf (changed false b s) (changedPlaces false xs) (changedPlaces b ys))
+pub mirror-image : MirrorImageClaim
 mirror-image b s xs ys f e = changed-decision false b s xs ys f e .equal-if (λ x. true≢false (sym x))

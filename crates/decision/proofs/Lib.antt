@@ -4,4 +4,5 @@ pub mod Sides
 pub mod Told
 pub mod Changed
 pub mod HalfTurn
+pub mod KickPlace
 pub mod Few

@@ -1,15 +1,10 @@
 -- What the theorem of the change of signs asks of a situation, from its floats and its acceptance. Assumes nothing.
-use mathlib.Core.Path.{_≡_, refl}
+use mathlib.Core.Path.{_≡_}
 use mathlib.Core.Bool.{true, _&&_}
 use mathlib.Core.List.{List}
-use Prim.Native.Nat.{ℕ, zero, suc, _<_}
-use native.Mathlib.Omega.{arith}
-use borrow.Author.Tests.{leb-true}
-use lib.Dec.{leb}
+use Prim.Native.Nat.{ℕ, zero, suc}
 use lib.Ieee.{Float, lt, le}
-use Rattle.lists.proofs.Bools.{both-true, left-true, right-true}
-use Rattle.lists.proofs.Every.{every-at}
-use Rattle.lists.proofs.Refusals.{all-hold}
+use Rattle.lists.proofs.Bools.{both-true}
 use Rattle.floats.specs.Arithmetic.{zero32, one, four, sixtyFour}
 use Rattle.game.specs.Players.{playerAt, teamOf, playerNumbered}
 use Rattle.game.specs.declared.FieldDimensions.{FieldDimensions}
@@ -20,13 +15,14 @@ use Rattle.game.specs.declared.Side.{Side}
 use Rattle.game.specs.declared.Side.the-variants.{Home, Away}
 use Rattle.game.specs.declared.Situation.{Situation}
 use Rattle.game.specs.declared.Team.{Team}
-use Rattle.places.specs.Turned.{Located, FitsY}
-use Rattle.ball.specs.Turned.{Sized}
+use Rattle.places.proofs.Turned.{Located, FitsY}
+use Rattle.ball.proofs.Sizes.{Sized}
 use Rattle.penalty.proofs.Sizes.{PlaceSizes}
 use Rattle.penalty.proofs.Sizes as Sizes
-use Rattle.refusals.specs.Refusals.{isCoordinate, isRadius, isPlayerNumber, poseFits, seenFits, referenceFits, playerFits, teamFits, posesFit, listsFit, fieldFits, ballFits, numbersFit, wishFits, restartFits, numberFits, distanceFits, five, conditionsOf, refusalOf}
-use Rattle.decision.specs.Fit.{Fit, PoseFit, SeenFit, PlayerFit, SizesFit}
-use Rattle.decision.proofs.Accepted.{Ranges, coordinate-within, ball-located, field-ranges, field-sized}
+use Rattle.refusals.specs.Refusals.{isCoordinate, isRadius, isPlayerNumber, poseFits, seenFits, fieldFits, ballFits, wishFits, refusalOf}
+use Rattle.refusals.proofs.Accepted.{Ranges, accepted, field-ranges, numbered-fits, team-fits, wished-fits}
+use Rattle.decision.specs.Fit.{Fit, PoseFit, SeenFit, SizesFit}
+use Rattle.decision.proofs.Accepted.{coordinate-within, ball-located, field-sized}
 
 -- what the proof of the theorem uses
 pub record Parts (s : Situation) : Type 0 where
@@ -36,21 +32,12 @@ pub record Parts (s : Situation) : Type 0 where
   pub place-sizes : (side : Side) (n : ℕ) → isPlayerNumber n ≡ true → Sizes.Fit (s .field) (playerNumbered (teamOf s side) n .pose)
   pub wish-fits : wishFits (s .wish) ≡ true
 
--- ---- what acceptance says
-record Accepted (s : Situation) (xs ys : List Float) : Type 0 where
-  field-fits : fieldFits (s .field) ≡ true
-  poses-fit : posesFit (s .home) (s .away) xs ys ≡ true
-  ball-fits : ballFits (s .ball) ≡ true
-  numbers-fit : numbersFit (s .home .goalkeeper) (s .away .goalkeeper) (s .restart) (s .wish) ≡ true
-
-accepted : (s : Situation) (xs ys : List Float) → refusalOf s xs ys ≡ 0 → Accepted s xs ys
-unfolding refusalOf conditionsOf
-accepted s xs ys e =
-    let one = both-true (fieldFits (s .field)) _ (all-hold (five (fieldFits (s .field)) (posesFit (s .home) (s .away) xs ys) (ballFits (s .ball)) (numbersFit (s .home .goalkeeper) (s .away .goalkeeper) (s .restart) (s .wish)) (distanceFits (s .«penalty_placement_distance»))) refl e) in
-    let two = both-true (posesFit (s .home) (s .away) xs ys) _ (one .1) in
-    let three = both-true (ballFits (s .ball)) _ (two .1) in
-    let four = both-true (numbersFit (s .home .goalkeeper) (s .away .goalkeeper) (s .restart) (s .wish)) _ (three .1) in
-    record { field-fits = one .0; poses-fit = two .0; ball-fits = three .0; numbers-fit = four .0 }
+-- what is asked of the values besides that the floats fit: the ranges of field, ball and seen poses, and the wished number
+pub record InRange (s : Situation) : Type 0 where
+  pub field-fits : fieldFits (s .field) ≡ true
+  pub poses-fit : (side : Side) (n : ℕ) → isPlayerNumber n ≡ true → seenFits (playerNumbered (teamOf s side) n .pose) ≡ true
+  pub ball-fits : ballFits (s .ball) ≡ true
+  pub wish-fits : wishFits (s .wish) ≡ true
 
 -- ---- a player by its number
 -- the y of a pose that fits
@@ -58,9 +45,9 @@ seen-y : (p : SeenPose) → SeenFit p → FitsY p
 seen-y Absent h = tt
 seen-y (Present p) h = h .y
 
-numbered-y : (t : Team) → ((i : ℕ) → PlayerFit (playerAt t i)) → (n : ℕ) → FitsY (playerNumbered t n .pose)
+numbered-y : (t : Team) → ((i : ℕ) → SeenFit (playerAt t i .pose)) → (n : ℕ) → FitsY (playerNumbered t n .pose)
 numbered-y t h zero = tt
-numbered-y t h (suc i) = seen-y (playerAt t i .pose) (h i .pose)
+numbered-y t h (suc i) = seen-y (playerAt t i .pose) (h i)
 
 -- the sizes that a penalty place asks for
 module _ (f : FieldDimensions) (r : Ranges f) (fit : SizesFit f) where
@@ -90,46 +77,35 @@ module _ (f : FieldDimensions) (r : Ranges f) (fit : SizesFit f) where
   seen-sizes Absent h e = tt
   seen-sizes (Present p) h e = pose-sizes p h e
 
-  -- a wished number names one of the twenty, whose pose was looked at
-  numbered-sizes : (t : Team) → ((i : ℕ) → PlayerFit (playerAt t i)) → teamFits t ≡ true → (n : ℕ) → isPlayerNumber n ≡ true → Sizes.Fit f (playerNumbered t n .pose)
-  numbered-sizes t h e zero k = tt
-  numbered-sizes t h e (suc i) k = seen-sizes (playerAt t i .pose) (h i .pose) seen
-    where
-      small : i < 20
-      small = omega (arith, leb-true (suc i) 20 (both-true (leb 1 (suc i)) (leb (suc i) 20) k .1))
-
-      each : playerFits (playerAt t i) ≡ true
-      each = unfold teamFits in every-at 20 (λ j. playerFits (playerAt t j)) e i small
-
-      seen : seenFits (playerAt t i .pose) ≡ true
-      seen = left-true (seenFits (playerAt t i .pose)) (referenceFits (playerAt t i .reference)) (left-true (seenFits (playerAt t i .pose) && referenceFits (playerAt t i .reference)) (isCoordinate (playerAt t i .allowance)) each)
+  numbered-sizes : (t : Team) → ((i : ℕ) → SeenFit (playerAt t i .pose)) → (n : ℕ) → seenFits (playerNumbered t n .pose) ≡ true → Sizes.Fit f (playerNumbered t n .pose)
+  numbered-sizes t h zero e = tt
+  numbered-sizes t h (suc i) e = seen-sizes (playerAt t i .pose) (h i) e
 
 -- ---- the parts
-module _ (s : Situation) (xs ys : List Float) (fit : Fit s xs ys) (a : Accepted s xs ys) where
-  teams-fit : (teamFits (s .home) ≡ true) × (teamFits (s .away) ≡ true)
-  teams-fit = both-true (teamFits (s .home)) (teamFits (s .away)) (unfold posesFit in left-true (teamFits (s .home) && teamFits (s .away)) (listsFit xs ys) (a .poses-fit))
-
+module _ (s : Situation) (fit : Fit s) (r : InRange s) where
   -- of the team of a side
-  players-fit : (side : Side) (i : ℕ) → PlayerFit (playerAt (teamOf s side) i)
-  players-fit Home = fit .home
-  players-fit Away = fit .away
+  poses-fit : (side : Side) (i : ℕ) → SeenFit (playerAt (teamOf s side) i .pose)
+  poses-fit Home = fit .home
+  poses-fit Away = fit .away
 
-  team-fits : (side : Side) → teamFits (teamOf s side) ≡ true
-  team-fits Home = teams-fit .0
-  team-fits Away = teams-fit .1
-
-  wished : wishFits (s .wish) ≡ true
-  wished = unfold numbersFit in right-true (numberFits (s .home .goalkeeper) && numberFits (s .away .goalkeeper) && restartFits (s .restart)) (wishFits (s .wish)) (a .numbers-fit)
-
-  from-accepted : Parts s
-  from-accepted =
+  pub parts : Parts s
+  parts =
       record {
-        located = ball-located (s .ball) (fit .ball .x) (fit .ball .y) (a .ball-fits);
-        sized = field-sized (s .field) (fit .field .length) (fit .field .ball-radius) (a .field-fits);
-        y-fits = λ side. numbered-y (teamOf s side) (players-fit side);
-        place-sizes = λ side. numbered-sizes (s .field) (field-ranges (s .field) (a .field-fits)) (fit .field) (teamOf s side) (players-fit side) (team-fits side);
-        wish-fits = wished;
+        located = ball-located (s .ball) (fit .ball .x) (fit .ball .y) (r .ball-fits);
+        sized = field-sized (s .field) (fit .field .length) (fit .field .ball-radius) (r .field-fits);
+        y-fits = λ side. numbered-y (teamOf s side) (poses-fit side);
+        place-sizes = λ side n k. numbered-sizes (s .field) (field-ranges (s .field) (r .field-fits)) (fit .field) (teamOf s side) (poses-fit side) n (r .poses-fit side n k);
+        wish-fits = r .wish-fits;
       }
 
-pub parts : (s : Situation) (xs ys : List Float) → Fit s xs ys → refusalOf s xs ys ≡ 0 → Parts s
-parts s xs ys fit e = from-accepted s xs ys fit (accepted s xs ys e)
+-- ---- acceptance
+-- an accepted situation is in range
+pub accepted-in-range : (s : Situation) (xs ys : List Float) → refusalOf s xs ys ≡ 0 → InRange s
+accepted-in-range s xs ys e =
+    let a = accepted s xs ys e in
+    record {
+      field-fits = a .field-fits;
+      poses-fit = λ side n k. numbered-fits (teamOf s side) (team-fits s xs ys a side) n k;
+      ball-fits = a .ball-fits;
+      wish-fits = wished-fits s xs ys a;
+    }

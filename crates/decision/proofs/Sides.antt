@@ -33,8 +33,7 @@ use Rattle.positioning.proofs.Turned.{verdict-changed}
 use Rattle.excess.proofs.ExcessLaws.{excess-changed}
 use Rattle.kicker.proofs.KickerLaws.{kicker-changed}
 use Rattle.motion.specs.Motion.{referencesAfter}
-use Rattle.motion.specs.Turned.{changedElement}
-use Rattle.motion.proofs.Turned.{moved-players-changed, references-changed}
+use Rattle.motion.proofs.Turned.{changedElement, moved-players-changed, references-changed}
 use Rattle.decision.specs.Decision.{verdictAt, teamVerdicts, teamExcess, isExcessAsked, emptyList, isLeaving, leavingPlayers, teamMargins, sideMargins, teamDecision, sideDecision, kickerNumbered, kickerIfAny, kickingPlayer}
 use Rattle.decision.specs.Changed.{changed, ChangedReference, ChangedReferences, ChangedSide}
 

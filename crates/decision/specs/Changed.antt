@@ -1,4 +1,4 @@
--- A situation in which x or y, or both, change their signs, what makes its decision equal to that of the situation, and the exception.
+-- A situation with the signs of x, of y or of both changed, what makes the two decisions equal, the exception, and the claims.
 -- x changes its sign where a is true, and y where b is: the half turn changes both, a mirror image in y the second. Definitions only.
 use mathlib.Core.Path.{_≡_}
 use mathlib.Core.Bool.{Bool, true, false, _&&_}
@@ -16,6 +16,9 @@ use Rattle.game.specs.declared.Wish.the-variants.{Nothing, BallAtRestart, BallI
 use Rattle.geometry.specs.Turned.{signed, changedGame, changedTeam, changedBall}
 use Rattle.places.specs.Turned.{ChangedHeading, ChangedPlace}
 use Rattle.ball.specs.Turned.{isExcepted}
+use Rattle.refusals.specs.Refusals.{refusalOf}
+use Rattle.decision.specs.Decision.{decisionOf}
+use Rattle.decision.specs.Fit.{Fit}
 
 -- x and y of poses, reference poses and ball change, sign bits of zeros too; where x does, the ends are exchanged; the rest is kept
 abbrev pub changed : Bool → Bool → Situation → Situation
@@ -84,3 +87,19 @@ isExceptedBy a s = a && isExcepted (s .game) (s .field) (s .ball) (s .«last_con
 
 abbrev pub ExceptedBy : Bool → Situation → Type 0
 ExceptedBy a s = isExceptedBy a s ≡ true
+
+-- ---- the claims
+-- the changed situation is accepted, and the decisions are equal if and only if the exception does not hold
+pub record SignChange (a b : Bool) (s : Situation) (xs ys : List Float) : Type 0 where
+  pub accepted-too : refusalOf (changed a b s) (changedPlaces a xs) (changedPlaces b ys) ≡ 0
+  pub equal-only-if : ChangedDecision a b (s .wish) (decisionOf s xs ys) (decisionOf (changed a b s) (changedPlaces a xs) (changedPlaces b ys)) → ExceptedBy a s → ⊥
+  pub equal-if : (ExceptedBy a s → ⊥) → ChangedDecision a b (s .wish) (decisionOf s xs ys) (decisionOf (changed a b s) (changedPlaces a xs) (changedPlaces b ys))
+
+-- it is so of every accepted situation
+abbrev pub SignChangeClaim : Type 0
+SignChangeClaim = (a b : Bool) (s : Situation) (xs ys : List Float) → Fit s → refusalOf s xs ys ≡ 0 → SignChange a b s xs ys
+
+-- where x keeps its sign, as in a mirror image in y, there is no exception
+abbrev pub MirrorImageClaim : Type 0
+MirrorImageClaim =
+    (b : Bool) (s : Situation) (xs ys : List Float) → Fit s → refusalOf s xs ys ≡ 0 → ChangedDecision false b (s .wish) (decisionOf s xs ys) (decisionOf (changed false b s) (changedPlaces false xs) (changedPlaces b ys))

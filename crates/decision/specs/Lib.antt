@@ -2,3 +2,4 @@ pub mod Decision
 pub mod Fit
 pub mod Changed
 pub mod HalfTurn
+pub mod KickPlace

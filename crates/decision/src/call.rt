@@ -59,8 +59,8 @@ fn side_margins(game: Game, field: FieldDimensions, side: Side, team: Team) -> [
     geometry::compute_margins(team, field, sign)
 }
 
-// The decision on a situation that is not refused.
-fn judged<'a>(s: Situation, xs: &'a [f32], ys: &'a [f32]) -> Decision
+// The decision on a situation, item by item. Whether the situation is to be refused is asked before.
+pub fn decision_of<'a>(s: Situation, xs: &'a [f32], ys: &'a [f32]) -> Decision
     ensures { λ r. ⌜ r ≡ Spec.decisionOf s (now (xs .entry)) (now (ys .entry)) ⌝ }
 {
     let game = s.game;
@@ -127,7 +127,7 @@ pub fn decide<'a>(s: Situation, xs: &'a [f32], ys: &'a [f32]) -> Answer
 {
     let refusal = refusals::refusal(s, xs, ys);
     if refusal == 0 {
-        let decision = judged(s, xs, ys);
+        let decision = decision_of(s, xs, ys);
         return Answer { refusal, decision };
     }
     let decision = empty_decision();

@@ -1,4 +1,4 @@
--- Kinds of values that the laws speak of. Definitions only.
+-- Numbers, finite values, values from -64 to 64, and values that are equal but for the signs of zeros. Definitions only.
 use mathlib.Core.Path.{_≡_}
 use mathlib.Core.Logic.{_⊎_}
 use mathlib.Core.Bool.{not, true, false}

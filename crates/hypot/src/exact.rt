@@ -4,7 +4,7 @@ ghost use Prim.Native.Nat.{ℕ, _+_, _*_, _-_, _/_, _^_, _≤_, _<_, min, max};
 ghost use lib.Dec.{leb};
 ghost use Rattle.hypot.specs.Hypot.{unitsOf, square, nearestRoot};
 ghost use Rattle.hypot.specs.Hypot as Spec;
-ghost use Rattle.hypot.specs.Steps.{Flag, Rooted, Packed};
+ghost use Rattle.hypot.specs.Steps.{Rooted, Packed};
 
 // The larger of two patterns.
 pub(crate) fn larger(p: u32, q: u32) -> u32
@@ -71,17 +71,6 @@ fn exponent(p: u32) -> u32
     if f == 0 { 0 } else { f - 1 }
 }
 
-// Whether anything was left over.
-fn inexact(u: u64, s: u64, v: u64, c: u64) -> u64
-    ensures { λ r. ⌜ Flag r u s v c ⌝ }
-{
-    if u == s {
-        if v == c { 0 } else { 1 }
-    } else {
-        1
-    }
-}
-
 // At most the infinity's pattern.
 fn capped(b: u32) -> u32
     ensures { λ r. ⌜ r ≡ min b 0x7f80_0000 ⌝ }
@@ -103,8 +92,12 @@ fn rooted(a: u64, b: u64, k: u32) -> Found
     let h = c >> k;
     let s = 4 * a * a + h;
     let t = root(s);
-    let x = inexact(t * t, s, h << k, c);
-    Found { t, x }
+    if t * t == s {
+        if h << k == c {
+            return Found { t, x: 0 };
+        }
+    }
+    Found { t, x: 1 }
 }
 
 // The pattern of t and x, rounded to the nearest, a tie to the even one.

@@ -1,4 +1,4 @@
--- A situation as numbers: its words, the number of earlier x and their patterns, the number of earlier y and theirs. Definitions only.
+-- The numbers of a text as a situation, or what is wrong with them: the words, the number of earlier x and their patterns, the number of earlier y and theirs. Definitions only.
 -- ns are the numbers and n is how many they are. A fault names a number, counted from 1.
 use mathlib.Core.Bool.{cond}
 use mathlib.Core.List.{List}

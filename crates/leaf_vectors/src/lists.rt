@@ -53,6 +53,13 @@ fn answered_at(q: Query, list: &mut [f32], i: usize) -> u32 {
     bits_at(part, i)
 }
 
+// The pattern that a place of the whole list has after that, in the part or behind it.
+fn left_at(q: Query, i: usize) -> u32 {
+    let mut list = [FILL; MOST];
+    answered(q, &mut list);
+    bits_at(&list, i)
+}
+
 pub(crate) fn value(function: u32, vector: &[u32]) -> u32 {
     let q = Query {
         start: from_bits(at(vector, 1)),
@@ -68,6 +75,7 @@ pub(crate) fn value(function: u32, vector: &[u32]) -> u32 {
         14 => candidates::candidates_refusal(q.start, q.min, q.max, q.step, lent) as u32,
         15 => filled_at(q, lent, i),
         16 => (answered(q, &mut list) % 65536) as u32,
-        _ => answered_at(q, &mut list, i),
+        17 => answered_at(q, &mut list, i),
+        _ => left_at(q, i),
     }
 }

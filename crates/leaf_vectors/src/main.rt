@@ -13,8 +13,8 @@ use numbers::Reading;
 // The numbers of a vector: its function's, six operands and what is expected.
 const WIDTH: usize = 8;
 
-// Room for the numbers of 1,280 vectors.
-const MOST: usize = 10240;
+// Room for the numbers of 1,536 vectors.
+const MOST: usize = 12288;
 
 // What stands for the answer of a number that is no function's. No function gives it: `bits` has another pattern for a NaN.
 const NOTHING: u32 = 0xffff_ffff;
@@ -64,7 +64,7 @@ fn value(vector: &[u32]) -> u32 {
         10 => bits(floats::rem_euclid(x, y)),
         11 => bits(hypot::hypot(x, y)),
         12 => bits(floats::from_count((a % 65536) as u16)),
-        13..=17 => lists::value(function, vector),
+        13..=18 => lists::value(function, vector),
         _ => NOTHING,
     }
 }
@@ -88,7 +88,7 @@ fn agrees(vector: &[u32], line: usize) -> bool {
 
 // How many of so many vectors agree.
 fn agreeing(vectors: &[u32; MOST], n: usize) -> usize
-    requires { ⌜ n ≤ 1280 ⌝ }
+    requires { ⌜ n ≤ 1536 ⌝ }
 {
     let all = &vectors[..];
     let mut agree = 0;
@@ -105,7 +105,7 @@ fn agreeing(vectors: &[u32; MOST], n: usize) -> usize
 
 // How many vectors were read and have room; 0 where something is no number.
 fn count_of(reading: Reading) -> usize
-    ensures { λ r. ⌜ r ≤ 1280 ⌝ }
+    ensures { λ r. ⌜ r ≤ 1536 ⌝ }
 {
     match reading {
         Reading::Read(n) => if n < MOST { n / WIDTH } else { MOST / WIDTH },

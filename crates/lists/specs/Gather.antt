@@ -1,4 +1,4 @@
--- Parts, one after the other: f 0 ++ f 1 ++ .. ++ f (n - 1). Definitions only.
+-- Parts one after the other, f 0 ++ f 1 ++ .. ++ f (n - 1). Definitions only.
 use mathlib.Core.Bool.{Bool, true, false}
 use mathlib.Core.List.{List, [], _∷_, _++_}
 use Prim.Native.Nat.{ℕ, zero, suc}

@@ -1,4 +1,4 @@
--- A list of refusals: the first condition that does not hold, by its number. Definitions only.
+-- The first condition of a list that does not hold, by its number: a list of refusals. Definitions only.
 use mathlib.Core.Bool.{Bool, true, _&&_, cond}
 use mathlib.Core.List.{List, [], _∷_}
 use Prim.Native.Nat.{ℕ}

@@ -1,4 +1,4 @@
--- A table: the list f 0, f 1, .., f (n - 1). Definitions only.
+-- The table of a function f, the list f 0, f 1, .., f (n - 1). Definitions only.
 use mathlib.Core.List.{List, [], _∷_, _++_}
 use Prim.Native.Nat.{ℕ, zero, suc}
 use lib.ListN.{drop}

@@ -10,6 +10,7 @@ use Rattle.game.specs.Players.{playerAt}
 use Rattle.game.proofs.Listing.{numbers-same}
 use Rattle.game.specs.declared.Player.{Player}
 use Rattle.game.specs.declared.PlayerPose.{PlayerPose}
+use Rattle.game.specs.declared.PlayerReference.{PlayerReference}
 use Rattle.game.specs.declared.ReferencePose.{ReferencePose}
 use Rattle.game.specs.declared.ReferencePose.the-variants.{NoReference, Reference}
 use Rattle.game.specs.declared.SeenPose.{SeenPose}
@@ -18,7 +19,6 @@ use Rattle.game.specs.declared.Team.{Team}
 use Rattle.geometry.specs.Turned.{changedPose, changedSeen, changedReference, changedPlayer, changedTeam}
 use Rattle.geometry.proofs.Turned.{distance-changed, player-at-changed}
 use Rattle.motion.specs.Motion.{isAway, isSeenAway, hasMoved, movedPlayers, unlessMoved, referenceAfter, referencesAfter}
-use Rattle.motion.specs.Turned.{changedElement}
 
 away-changed : (a b : Bool) (p q : PlayerPose) → isAway (changedPose a b p) (changedPose a b q) ≡ isAway p q
 away-changed a b p q = cc (distance-changed a b (p .x) (p .y) (q .x) (q .y))
@@ -43,6 +43,10 @@ moved-players-changed a b t =
 unless-changed : (a b m : Bool) (r : ReferencePose) → unlessMoved m (changedReference a b r) ≡ changedReference a b (unlessMoved m r)
 unless-changed a b true r = refl
 unless-changed a b false r = refl
+
+-- an element of a list of reference poses, changed
+abbrev pub changedElement : Bool → Bool → PlayerReference → PlayerReference
+changedElement a b r = record { reference = changedReference a b (r .reference) }
 
 reference-changed : (a b : Bool) (t : Team) (i : ℕ) → referenceAfter (playerAt (changedTeam a b t) i) ≡ changedElement a b (referenceAfter (playerAt t i))
 reference-changed a b t i =

@@ -1,4 +1,4 @@
-// Who has moved from the pose that motion is measured from, while nobody may move.
+// Who has moved from its reference pose. It is asked in every state; when a robot may move is for the caller to know.
 ghost use mathlib.Core.Path.{_≡_};
 ghost use Rattle.motion.specs.Motion as Spec;
 use game::Player;

@@ -1,21 +1,19 @@
 -- A field has at least one byte, and the value of the open field is at most 2^32. Assumes nothing.
-use mathlib.Core.Path.{_≡_, refl, subst}
+use mathlib.Core.Path.{_≡_, refl}
 use mathlib.Core.Bool.{Bool, true, false, cond}
 use Prim.Native.Nat.{ℕ, _+_, _-_, _*_, _≤_}
 use native.Mathlib.Omega.{arith}
 use borrow.Author.Tests.{leb-true}
 use lib.Dec.{leb}
 use Rattle.lists.proofs.Bools.{both-true}
-use Rattle.numbers.specs.declared.Kind.{Kind}
-use Rattle.numbers.specs.declared.Kind.the-variants.{Separator, Digit, Other}
 use Rattle.numbers.specs.declared.Progress.{Progress}
 use Rattle.numbers.specs.declared.Progress.the-variants.{Closed, Open}
 use Rattle.numbers.specs.declared.Reading.the-variants.{Read, NotANumber, TooLarge}
 use Rattle.numbers.specs.Numbers.{isSeparator, isDigit, isSmall}
-use Rattle.numbers.specs.Walk.{kindOf, withDigit, afterByte, fieldOf, begun, openValue}
+use Rattle.numbers.specs.Walk.{Kind, Separator, Digit, Other, kindOf, withDigit, afterByte, fieldOf, begun, openValue}
 
 -- the digit, or 0
-abbrev pub digitIn : Kind → ℕ
+abbrev digitIn : Kind → ℕ
 digitIn Separator = 0
 digitIn (Digit d) = d
 digitIn Other = 0
@@ -28,9 +26,6 @@ digit-at-most b = go (isSeparator b) (isDigit b) refl
     go true d e = omega arith
     go false true e = omega (arith, leb-true b 57 (both-true (leb 48 b) (leb b 57) e .1))
     go false false e = omega arith
-
-pub digit-told : (b d : ℕ) → kindOf b ≡ Digit d → d ≤ 9
-digit-told b d e = subst (λ (k : Kind). digitIn k ≤ 9) e (digit-at-most b)
 
 -- a byte begins one field at most
 pub begun-on : (k : Kind) (p : Progress) → begun (afterByte k p) ≤ begun p + 1

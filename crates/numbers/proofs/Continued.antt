@@ -9,13 +9,12 @@ use borrow.Author.Tests.{leb-false, lt-leb}
 use lib.ListN.{length, drop, set, getD, drop-of-length-le}
 use lib.Seq.{sets, drop-cons}
 use Rattle.lists.specs.Put.{putIf}
-use Rattle.numbers.specs.declared.Kind.the-variants.{Separator, Digit, Other}
 use Rattle.numbers.specs.declared.Progress.{Progress}
 use Rattle.numbers.specs.declared.Progress.the-variants.{Closed, Open}
 use Rattle.numbers.specs.declared.Reading.{Reading}
 use Rattle.numbers.specs.declared.Reading.the-variants.{Read, NotANumber, TooLarge}
 use Rattle.numbers.specs.Numbers.{isSeparator, isDigit, isSmall, onFirst, cut, pieces, nonEmpty, allDigits, valueFrom, valueOf, numbersIn, readingFrom, thenMore, judged, fields, numbersOf, readingOf, stored}
-use Rattle.numbers.specs.Walk.{kindOf, withDigit, ended, storedAtEnd, afterDigit, afterOther, afterByte, storedByByte}
+use Rattle.numbers.specs.Walk.{Separator, Digit, Other, kindOf, withDigit, ended, storedAtEnd, afterDigit, afterOther, afterByte, storedByByte}
 use Rattle.numbers.proofs.Stored.{sets-stored}
 
 -- a reading and a buffer

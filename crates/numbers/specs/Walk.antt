@@ -3,15 +3,19 @@ use mathlib.Core.Bool.{cond}
 use mathlib.Core.List.{List}
 use Prim.Native.Nat.{ℕ, _+_, _-_, _*_}
 use Rattle.lists.specs.Put.{putIf}
-use Rattle.numbers.specs.declared.Kind.{Kind}
-use Rattle.numbers.specs.declared.Kind.the-variants.{Separator, Digit, Other}
 use Rattle.numbers.specs.declared.Progress.{Progress}
 use Rattle.numbers.specs.declared.Progress.the-variants.{Closed, Open}
 use Rattle.numbers.specs.declared.Reading.{Reading}
 use Rattle.numbers.specs.declared.Reading.the-variants.{Read, NotANumber, TooLarge}
 use Rattle.numbers.specs.Numbers.{isSeparator, isDigit, isSmall}
 
--- what a byte is
+-- what a byte is; of a digit, its value
+pub data Kind : Type 0 where
+  Separator : Kind
+  Digit : ℕ → Kind
+  Other : Kind
+
+-- the kind of a byte
 unfoldable pub kindOf : ℕ → Kind
 kindOf b = cond (isSeparator b) Separator (cond (isDigit b) (Digit (b - 48)) Other)
 
@@ -29,26 +33,18 @@ abbrev pub storedAtEnd : Progress → List ℕ → List ℕ
 storedAtEnd (Closed r) buffer = buffer
 storedAtEnd (Open n v) buffer = putIf (isSmall v) buffer n v
 
--- a digit after a reading opens a field, unless there was a fault
-abbrev pub opened : Reading → ℕ → Progress
-opened (Read n) d = Open n d
-opened (NotANumber k) d = Closed (NotANumber k)
-opened (TooLarge k) d = Closed (TooLarge k)
-
--- after a digit
+-- after a digit, which opens a field outside of one, unless there was a fault
 abbrev pub afterDigit : Progress → ℕ → Progress
-afterDigit (Closed r) d = opened r d
+afterDigit (Closed (Read n)) d = Open n d
+afterDigit (Closed (NotANumber k)) d = Closed (NotANumber k)
+afterDigit (Closed (TooLarge k)) d = Closed (TooLarge k)
 afterDigit (Open n v) d = Open n (withDigit v d)
 
--- a wrong byte after a reading is a fault of the next field, unless there was a fault
-abbrev pub spoiled : Reading → Reading
-spoiled (Read n) = NotANumber (n + 1)
-spoiled (NotANumber k) = NotANumber k
-spoiled (TooLarge k) = TooLarge k
-
--- after a byte that is neither a digit nor a separator
+-- after a byte that is neither a digit nor a separator: a fault of this field or of the next, unless there was one
 abbrev pub afterOther : Progress → Reading
-afterOther (Closed r) = spoiled r
+afterOther (Closed (Read n)) = NotANumber (n + 1)
+afterOther (Closed (NotANumber k)) = NotANumber k
+afterOther (Closed (TooLarge k)) = TooLarge k
 afterOther (Open n v) = NotANumber (n + 1)
 
 -- after a byte

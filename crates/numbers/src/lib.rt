@@ -1,7 +1,6 @@
 // Decimal numbers from a text, separated by blanks or line feeds.
 ghost use mathlib.Core.Path.{_≡_};
 ghost use Prim.Native.Nat.{_<_, _≤_};
-ghost use lib.ListN.{set};
 ghost use Rattle.numbers.specs.Numbers as Spec;
 ghost use Rattle.numbers.specs.Walk as Walk;
 
@@ -12,13 +11,6 @@ pub enum Reading {
     TooLarge(usize),
 }
 
-// What a byte is; of a digit, its value.
-enum Kind {
-    Separator,
-    Digit(u64),
-    Other,
-}
-
 // What is known after some bytes. Outside of a field, and wherever there was a fault: the reading so far.
 // In a field of digits: how many numbers come before it, and its value so far, where 2^32 stands for every value that is too large.
 enum Progress {
@@ -26,118 +18,56 @@ enum Progress {
     Open(usize, u64),
 }
 
-fn kind_of(b: u8) -> Kind
-    ensures { λ r. ⌜ r ≡ Walk.kindOf b ⌝ }
-{
-    if (b == 32) | (b == 10) {
-        return Kind::Separator;
-    }
-    if (b >= 48) & (b <= 57) {
-        return Kind::Digit((b - 48) as u64);
-    }
-    Kind::Other
-}
-
-// The value v with the digit d after its digits.
-fn with_digit(v: u64, d: u64) -> u64
-    requires { ⌜ (v ≤ 4294967296) × (d ≤ 9) ⌝ }
-    ensures { λ r. ⌜ r ≡ Walk.withDigit v d ⌝ }
-{
-    let w = 10 * v + d;
-    if w <= 4294967295 {
-        return w;
-    }
-    4294967296
-}
-
-// Stores v at the place n, if the list has one.
-fn put_in(numbers: &mut [u32], n: usize, v: u32)
-    ensures { λ r. ⌜ now (numbers .exit) ≡ set (now (numbers .entry)) n v ⌝ }
-{
-    if n < numbers.len() {
-        numbers[n] = v;
-    }
-}
-
-// Ends the field after n numbers, with the value v: a number is stored.
-fn end_open(n: usize, v: u64, numbers: &mut [u32]) -> Reading
-    requires { ⌜ n < 18446744073709551615 ⌝ }
-    ensures { λ r. ⌜ r ≡ Walk.ended (Progress.Open n v) ⌝ }
-    ensures { λ r. ⌜ now (numbers .exit) ≡ Walk.storedAtEnd (Progress.Open n v) (now (numbers .entry)) ⌝ }
-{
-    if v <= 4294967295 {
-        put_in(numbers, n, v as u32);
-        return Reading::Read(n + 1);
-    }
-    Reading::TooLarge(n + 1)
-}
-
-// Ends the open field, if there is one.
+// Ends the open field, if there is one: a number is stored, if the list has a place for it.
 fn end_field(progress: Progress, numbers: &mut [u32]) -> Reading
     requires { ⌜ Walk.begun progress ≤ 18446744073709551615 ⌝ }
     ensures { λ r. ⌜ r ≡ Walk.ended progress ⌝ }
     ensures { λ r. ⌜ now (numbers .exit) ≡ Walk.storedAtEnd progress (now (numbers .entry)) ⌝ }
 {
     match progress {
-        Progress::Closed(r) => r,
-        Progress::Open(n, v) => end_open(n, v, numbers),
+        Progress::Closed(reading) => reading,
+        Progress::Open(n, v) => {
+            if v > 4294967295 {
+                return Reading::TooLarge(n + 1);
+            }
+            if n < numbers.len() {
+                numbers[n] = v as u32;
+            }
+            Reading::Read(n + 1)
+        }
     }
 }
 
-// A digit after a reading opens a field, unless there was a fault.
-fn open_field(reading: Reading, d: u64) -> Progress
-    ensures { λ r. ⌜ r ≡ Walk.opened reading d ⌝ }
-{
-    match reading {
-        Reading::Read(n) => Progress::Open(n, d),
-        Reading::NotANumber(k) => Progress::Closed(Reading::NotANumber(k)),
-        Reading::TooLarge(k) => Progress::Closed(Reading::TooLarge(k)),
-    }
-}
-
-fn after_digit(progress: Progress, d: u64) -> Progress
-    requires { ⌜ (Walk.openValue progress ≤ 4294967296) × (d ≤ 9) ⌝ }
-    ensures { λ r. ⌜ r ≡ Walk.afterDigit progress d ⌝ }
-{
-    match progress {
-        Progress::Closed(r) => open_field(r, d),
-        Progress::Open(n, v) => Progress::Open(n, with_digit(v, d)),
-    }
-}
-
-// A wrong byte after a reading is a fault of the next field, unless there was a fault.
-fn spoiled(reading: Reading) -> Reading
-    requires { ⌜ Walk.fieldOf reading < 18446744073709551615 ⌝ }
-    ensures { λ r. ⌜ r ≡ Walk.spoiled reading ⌝ }
-{
-    match reading {
-        Reading::Read(n) => Reading::NotANumber(n + 1),
-        Reading::NotANumber(k) => Reading::NotANumber(k),
-        Reading::TooLarge(k) => Reading::TooLarge(k),
-    }
-}
-
-fn after_other(progress: Progress) -> Reading
-    requires { ⌜ Walk.begun progress < 18446744073709551615 ⌝ }
-    ensures { λ r. ⌜ r ≡ Walk.afterOther progress ⌝ }
-{
-    match progress {
-        Progress::Closed(r) => spoiled(r),
-        Progress::Open(n, _) => Reading::NotANumber(n + 1),
-    }
-}
-
-// One byte on.
+// One byte on. After a fault nothing changes.
 fn after_byte(progress: Progress, b: u8, numbers: &mut [u32]) -> Progress
     requires { ⌜ (Walk.begun progress < 18446744073709551615) × (Walk.openValue progress ≤ 4294967296) ⌝ }
     ensures { λ r. ⌜ r ≡ Walk.afterByte (Walk.kindOf b) progress ⌝ }
     ensures { λ r. ⌜ now (numbers .exit) ≡ Walk.storedByByte (Walk.kindOf b) progress (now (numbers .entry)) ⌝ }
 {
-    let kind = kind_of(b);
-    match kind {
-        Kind::Separator => Progress::Closed(end_field(progress, numbers)),
-        Kind::Digit(d) => after_digit(progress, d),
-        Kind::Other => Progress::Closed(after_other(progress)),
+    if (b == 32) | (b == 10) {
+        return Progress::Closed(end_field(progress, numbers));
+    }
+    let is_digit = (b >= 48) & (b <= 57);
+    match progress {
+        Progress::Closed(reading) => match reading {
+            Reading::Read(n) => {
+                if is_digit {
+                    return Progress::Open(n, (b - 48) as u64);
+                }
+                Progress::Closed(Reading::NotANumber(n + 1))
+            }
+            _ => progress,
+        },
+        Progress::Open(n, v) => {
+            if is_digit {
+                let w = 10 * v + (b - 48) as u64;
+                if w > 4294967295 {
+                    return Progress::Open(n, 4294967296);
+                }
+                return Progress::Open(n, w);
+            }
+            Progress::Closed(Reading::NotANumber(n + 1))
+        }
     }
 }
 

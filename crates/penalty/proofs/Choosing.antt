@@ -11,8 +11,8 @@ use Rattle.lists.specs.Gather.{flatTo, onlyIf}
 use Rattle.floats.specs.Leaves.{totalOrder}
 use Rattle.floats.specs.Arithmetic.{zero32}
 use Rattle.game.specs.declared.FieldDimensions.{FieldDimensions}
-use Rattle.candidates.specs.Candidates.{crossed, unfit, walks, candidatesOf, firstCandidate, candidateAt, isCandidate, triesOf, triedAt}
-use Rattle.candidates.proofs.CandidatesList.{Held, no-walk-told, candidates-by-tries}
+use Rattle.tries.specs.Tries.{crossed, unfit, walks, candidatesOf, firstCandidate, candidateAt, isCandidate, triesOf, triedAt}
+use Rattle.tries.proofs.CandidatesList.{Held, no-walk-told, candidates-by-tries}
 use Rattle.clearance.specs.Clearance.{Spot}
 use Rattle.penalty.specs.declared.Choice.{Choice}
 use Rattle.penalty.specs.declared.Search.{Search}

@@ -4,14 +4,13 @@ use mathlib.Core.Path.{_≡_, refl, sym, ap, subst, _∙_}
 use mathlib.Core.Bool.{Bool, true, false, not, cond}
 use native.Mathlib.Omega.{arith}
 use lib.Dec.{T}
-use lib.Ieee.{Float, nan, inf, fin, binary32, neg, add, mul, lt, le, fits, isNan, ofBits}
-use lib.Ieee.Fits.{mul-fits, add-fits}
+use lib.Ieee.{Float, nan, inf, fin, binary32, neg, add, lt, le, fits, isNan, ofBits}
+use lib.Ieee.Fits.{add-fits}
 use Rattle.floats.specs.Arithmetic.{_+₃₂_, _-₃₂_, _*₃₂_, zero32, half, one, two, four, pi, sixtyFour}
 use Rattle.floats.specs.Leaves.{withSign, negative}
 use Rattle.floats.specs.Values.{Number, Finite}
-use Rattle.floats.proofs.Laws.Constants.{bits-finite, zero-finite, half-finite, one-finite, two-finite, four-finite, sixtyFour-finite, zero-number, one-number, zero-below-one, half-not-below, half-of-four, two-and-zero, two-less-one}
+use Rattle.floats.proofs.Laws.Constants.{bits-finite, zero-finite, one-finite, two-finite, sixtyFour-finite, zero-number, one-number, zero-below-one, two-and-zero, two-less-one}
 use Rattle.floats.proofs.Laws.Order.{lt→<, <→lt, le→≤, ≤→le, le-numbers, number}
-use Rattle.floats.proofs.Laws.Products.{mul-mono}
 use Rattle.floats.proofs.Laws.Rounding.{sub-number, add-grows, sub-grows, finite-between}
 use Rattle.floats.proofs.Laws.Signs.{mul-neg-left}
 use Rattle.game.specs.declared.FieldDimensions.{FieldDimensions}
@@ -19,6 +18,7 @@ use Rattle.game.specs.declared.PlayerPose.{PlayerPose}
 use Rattle.game.specs.declared.SeenPose.{SeenPose}
 use Rattle.game.specs.declared.SeenPose.the-variants.{Absent, Present}
 use Rattle.geometry.specs.Turned.{signed}
+use Rattle.places.proofs.Bounds.{thirtyTwo, thirtyTwo-finite, half-least, half-most, half-is-finite}
 use Rattle.places.specs.Turned.{quarterTurn, GivenHeading, from-quarter, from-negative}
 use Rattle.penalty.specs.Penalty.{edgeOf, inward}
 
@@ -40,31 +40,20 @@ abbrev pub Fit : FieldDimensions → SeenPose → Type 0
 Fit f Absent = T true
 Fit f (Present p) = PlaceSizes f p
 
--- ---- the constants 32 and 96, and what they come from
-thirtyTwo : Float
-thirtyTwo = ofBits binary32 0x4200_0000
-
+-- ---- the constant 96, and what it comes from
 ninetySix : Float
 ninetySix = ofBits binary32 0x42c0_0000
-
-thirtyTwo-finite : Finite binary32 thirtyTwo
-unfolding thirtyTwo
-thirtyTwo-finite = bits-finite 0x4200_0000 (unfold ofBits in tt)
 
 ninetySix-finite : Finite binary32 ninetySix
 unfolding ninetySix
 ninetySix-finite = bits-finite 0x42c0_0000 (unfold ofBits in tt)
 
-half-of-sixtyFour : sixtyFour *₃₂ half ≡ thirtyTwo
-unfolding thirtyTwo mul ofBits
-half-of-sixtyFour = refl
-
 thirtyTwo-and-sixtyFour : thirtyTwo +₃₂ sixtyFour ≡ ninetySix
-unfolding thirtyTwo ninetySix add ofBits
+unfolding ninetySix add ofBits
 thirtyTwo-and-sixtyFour = refl
 
 -- a binary32 above zero and at most 1
-small-finite : (r : Float) → T (fits binary32 r) → lt zero32 r ≡ true → le r one ≡ true → Finite binary32 r
+pub small-finite : (r : Float) → T (fits binary32 r) → lt zero32 r ≡ true → le r one ≡ true → Finite binary32 r
 small-finite r q l h = finite-between binary32 zero32 r one zero-finite q one-finite (≤→le binary32 zero32 r zero-number n (omega (arith, lt→< binary32 zero32 r zero-number n l))) h
   where
     n : Number binary32 r
@@ -73,9 +62,6 @@ small-finite r q l h = finite-between binary32 zero32 r one zero-finite q one-fi
 -- ---- the edge of the carpet
 module _ (f : FieldDimensions) (p : PlayerPose) (s : PlaceSizes f p) where
   -- half the width is from 2 to 32, and with the border strip it is from 2 to 96
-  width-finite : Finite binary32 (f .width)
-  width-finite = finite-between binary32 four (f .width) sixtyFour four-finite (s .width-fits) sixtyFour-finite (s .width-least) (s .width-most)
-
   border-finite : Finite binary32 (f .«border_strip_width»)
   border-finite = finite-between binary32 zero32 (f .«border_strip_width») sixtyFour zero-finite (s .border-fits) sixtyFour-finite (s .border-least) (s .border-most)
 
@@ -83,17 +69,13 @@ module _ (f : FieldDimensions) (p : PlayerPose) (s : PlaceSizes f p) where
   radius-finite = small-finite (p .radius) (s .radius-fits) (s .radius-above) (s .radius-most)
 
   touchline-least : le two (f .width *₃₂ half) ≡ true
-  touchline-least =
-      ap (λ (v : Float). le v (f .width *₃₂ half)) (sym half-of-four)
-      ∙ mul-mono binary32 four (f .width) half four-finite width-finite half-finite half-not-below (s .width-least)
+  touchline-least = half-least (f .width) (s .width-fits) (s .width-least) (s .width-most)
 
   touchline-most : le (f .width *₃₂ half) thirtyTwo ≡ true
-  touchline-most =
-      ap (le (f .width *₃₂ half)) (sym half-of-sixtyFour)
-      ∙ mul-mono binary32 (f .width) sixtyFour half width-finite sixtyFour-finite half-finite half-not-below (s .width-most)
+  touchline-most = half-most (f .width) (s .width-fits) (s .width-least) (s .width-most)
 
   touchline-finite : Finite binary32 (f .width *₃₂ half)
-  touchline-finite = finite-between binary32 two (f .width *₃₂ half) thirtyTwo two-finite (mul-fits binary32 (f .width) half) thirtyTwo-finite touchline-least touchline-most
+  touchline-finite = half-is-finite (f .width) (s .width-fits) (s .width-least) (s .width-most)
 
   carpet : Float
   carpet = f .width *₃₂ half +₃₂ f .«border_strip_width»

@@ -2,8 +2,8 @@
 use mathlib.Core.Path.{_≡_, sym, ap, _∙_}
 use mathlib.Core.Bool.{Bool, cond}
 use mathlib.Core.List.{List}
-use Prim.Native.Nat.{ℕ, _≤_, _<_}
-use borrow.Author.Tests.{le-leb, lt-leb}
+use Prim.Native.Nat.{ℕ}
+use borrow.Author.Tests.{eq-eqb, ne-eqb}
 use lib.ListN.{length}
 use lib.Ieee.{Float, neg, lt}
 use Rattle.floats.specs.Arithmetic.{_*₃₂_, zero32, half, pi}
@@ -35,18 +35,18 @@ module _ (sides : SideMapping) (f : FieldDimensions) (d : Float) (home away : Te
   place : Float → SeenPose → Placement
   place sign pose = seenPlace f d sign pose (occupied home away side number xs ys) side number
 
-  -- more xs than ys
-  pub place-none : length ys < length xs → NoPlace ≡ placeForPenalty sides f d home away xs ys side number
+  -- lists of unlike length
+  pub place-none : (length xs ≡ length ys → ⊥) → NoPlace ≡ placeForPenalty sides f d home away xs ys side number
   unfolding placeForPenalty
   place-none l =
-      ap (λ (z : Bool). cond z (seenPlace f d (sideToSign side sides) (playerNumbered (teamOfSide home away side) number .pose) (occupied home away side number xs ys) side number) NoPlace) (sym (lt-leb (length xs) (length ys) l))
+      ap (λ (z : Bool). cond z (seenPlace f d (sideToSign side sides) (playerNumbered (teamOfSide home away side) number .pose) (occupied home away side number xs ys) side number) NoPlace) (sym (ne-eqb (length xs) (length ys) l))
 
-  module _ (q : Player) (l : length xs ≤ length ys) (n : q ≡ playerNumbered (teamOfSide home away side) number) where
+  module _ (q : Player) (l : length xs ≡ length ys) (n : q ≡ playerNumbered (teamOfSide home away side) number) where
     found : place (sideToSign side sides) (q .pose) ≡ placeForPenalty sides f d home away xs ys side number
     unfolding placeForPenalty place
     found =
         ap (λ (z : Player). place (sideToSign side sides) (z .pose)) n
-        ∙ ap (λ (z : Bool). cond z (place (sideToSign side sides) (playerNumbered (teamOfSide home away side) number .pose)) NoPlace) (sym (le-leb (length xs) (length ys) l))
+        ∙ ap (λ (z : Bool). cond z (place (sideToSign side sides) (playerNumbered (teamOfSide home away side) number .pose)) NoPlace) (sym (eq-eqb (length xs) (length ys) l))
 
     -- an absent player
     pub place-absent : q .pose ≡ Absent → NoPlace ≡ placeForPenalty sides f d home away xs ys side number

@@ -5,7 +5,7 @@ use mathlib.Core.Logic.{inl}
 use mathlib.Core.Bool.{Bool, true, false, not, cond}
 use mathlib.Core.List.{List, [], _∷_, map}
 use Prim.Native.Nat.{ℕ}
-use lib.Dec.{T, leb}
+use lib.Dec.{T, eqb}
 use lib.ListN.{length}
 use lib.Ieee.{Float, le, isNan}
 use Rattle.lists.proofs.Lengths.{length-map}
@@ -111,7 +111,7 @@ module _ (a b : Bool) (H : Float → Float → Type 0) (f : FieldDimensions) (d 
     unfolding placeForPenalty
     place-for-penalty-changed sides xs ys t =
         rw (occupied-changed a b home away side number xs ys, length-map (signed a) xs, length-map (signed b) ys, sign-changed a side sides, team-of-side-changed side, numbered-changed a b (teamOfSide home away side) number)
-        (chosen-changed (leb (length xs) (length ys)) (seen-place-changed (sideToSign side sides) (playerNumbered (teamOfSide home away side) number .pose) (occupied home away side number xs ys) t))
+        (chosen-changed (eqb (length xs) (length ys)) (seen-place-changed (sideToSign side sides) (playerNumbered (teamOfSide home away side) number .pose) (occupied home away side number xs ys) t))
 
 -- ---- with sizes that are accepted
 asked-of : (a b : Bool) (f : FieldDimensions) (pose : SeenPose) → Fit f pose → Asked b (GivenHeading a b) f pose

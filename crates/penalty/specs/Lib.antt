@@ -1,2 +1,3 @@
 pub mod Penalty
 pub mod Walk
+pub mod Meant

@@ -2,7 +2,7 @@
 use mathlib.Core.Bool.{Bool, true, false, cond}
 use mathlib.Core.List.{List, [], _∷_}
 use Prim.Native.Nat.{ℕ, Ordering, Ordering·lt, Ordering·eq, Ordering·gt}
-use lib.Dec.{leb}
+use lib.Dec.{eqb}
 use lib.ListN.{length}
 use lib.Ieee.{Float, nan, neg, lt, le}
 use Rattle.floats.specs.Arithmetic.{_+₃₂_, _-₃₂_, _*₃₂_, zero32, half, pi}
@@ -18,7 +18,7 @@ use Rattle.game.specs.declared.Side.{Side}
 use Rattle.game.specs.declared.SideMapping.{SideMapping}
 use Rattle.game.specs.declared.Team.{Team}
 use Rattle.geometry.specs.Geometry.{sideToSign, markX}
-use Rattle.candidates.specs.Candidates.{unfit, candidatesOf, firstCandidate}
+use Rattle.tries.specs.Tries.{unfit, candidatesOf, firstCandidate}
 use Rattle.clearance.specs.Clearance.{Spot, occupied, clearance}
 
 -- ---- which candidate is taken
@@ -46,7 +46,7 @@ notBelow Ordering·gt = true
 abbrev pub laterGreater : (Float → Float) → Float → Float → Float
 laterGreater clear x y = cond (notBelow (totalOrder (clear y) (clear x))) y x
 
--- the last of those with greatest clearance, of x and xs
+-- the last of those with greatest clearance, of x and xs; Meant.antt says what is meant
 abbrev pub lastGreatest : (Float → Float) → Float → List Float → Float
 lastGreatest clear x [] = x
 lastGreatest clear x (y ∷ ys) = lastGreatest clear (laterGreater clear x y) ys
@@ -71,7 +71,7 @@ lowestOf f r = neg (f .length) *₃₂ half +₃₂ r
 abbrev pub highestOf : Float → Float
 highestOf r = neg r
 
--- the candidates that are tried. Where the candidates' own entry would refuse the floats, which those of an accepted situation never are, the first alone.
+-- the candidates that are tried. Where the candidates' own entry would refuse the floats, which those of an accepted situation never are (the crate `bounds_hold`), the first alone.
 unfoldable pub candidatesTried : Float → Float → Float → Float → List Float
 candidatesTried start min max step = cond (unfit start min max step) (firstCandidate start min max ∷ []) (candidatesOf start min max step)
 
@@ -103,10 +103,10 @@ abbrev pub seenPlace : FieldDimensions → Float → Float → SeenPose → List
 seenPlace f d sign Absent spots side number = NoPlace
 seenPlace f d sign (Present p) spots side number = posePlace f d sign p spots side number
 
--- the place of the player with this number of a side; none where there are more xs than ys, which is refused before
+-- the place of the player with this number of a side; none where xs and ys differ in length, which is refused before
 unfoldable pub placeForPenalty : SideMapping → FieldDimensions → Float → Team → Team → List Float → List Float → Side → ℕ → Placement
 unfolding posePlace occupied
 placeForPenalty sides f d home away xs ys side number =
-    cond (leb (length xs) (length ys))
+    cond (eqb (length xs) (length ys))
     (seenPlace f d (sideToSign side sides) (playerNumbered (teamOfSide home away side) number .pose) (occupied home away side number xs ys) side number)
     NoPlace

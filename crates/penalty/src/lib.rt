@@ -70,8 +70,8 @@ fn after_try<'a>(
 ) -> Choice
     ensures { λ r. ⌜ r ≡ Walk.afterTry search (occupied home away side number (now (xs .entry)) (now (ys .entry))) j choice ⌝ }
 {
-    let x = candidates::candidate_at(search.first, search.distance, j);
-    if candidates::is_candidate(search.min, search.max, j, x) {
+    let x = tries::candidate_at(search.first, search.distance, j);
+    if tries::is_candidate(search.min, search.max, j, x) {
         let c = clearance::clearance(home, away, side, number, xs, ys, search.sign * x, search.y);
         return considered(choice, search.distance, x, c);
     }
@@ -123,8 +123,8 @@ fn team_place<'a>(
     let start = -(field.length * 0.5 - field.penalty_mark_distance);
     let min = -field.length * 0.5 + radius;
     let max = -radius;
-    let first = candidates::candidate_first(start, min, max);
-    let tries = candidates::candidate_tries(start, min, max, distance);
+    let first = tries::candidate_first(start, min, max);
+    let tries = tries::candidate_tries(start, min, max, distance);
     let c = clearance::clearance(home, away, side, number, xs, ys, sign * first, y);
     let reached = c >= distance;
     let search = Search {
@@ -144,7 +144,7 @@ fn team_place<'a>(
     taken.x
 }
 
-// The place of a penalized player at the edge of the carpet; none where there are more xs than ys, which is refused before.
+// The place of a penalized player at the edge of the carpet; none where the lists of earlier places differ in length, which is refused before.
 pub fn place_for_penalty<'a>(
     game: Game,
     field: FieldDimensions,
@@ -158,7 +158,7 @@ pub fn place_for_penalty<'a>(
 ) -> Placement
     ensures { λ r. ⌜ r ≡ Spec.placeForPenalty (game .sides) field distance home away (now (xs .entry)) (now (ys .entry)) side number ⌝ }
 {
-    if xs.len() > ys.len() {
+    if xs.len() != ys.len() {
         return Placement::NoPlace;
     }
     let player = match side {

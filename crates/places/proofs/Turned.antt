@@ -8,6 +8,7 @@ use lib.Ieee.{Float, binary32, neg, lt, fits, ofBits}
 use lib.Ieee.Fits.{sub-fits}
 use lib.Ieee.Bits.{ofBits-fits}
 use Rattle.floats.specs.Arithmetic.{_-₃₂_, _*₃₂_, zero32, half}
+use Rattle.floats.specs.Values.{Number}
 use Rattle.floats.proofs.Laws.MinMax.{max-fits}
 use Rattle.game.specs.Players.{playerNumbered}
 use Rattle.game.specs.Game.{sameSide, isShootout, isUnpenalized}
@@ -34,9 +35,20 @@ use Rattle.geometry.specs.Geometry.{sideToSign, teamX, isOnOwnGoalLine, markX}
 use Rattle.geometry.specs.Turned.{signed, changedPose, changedSeen, changedPlayer, changedTeam, changedBall, changedEnds, changedGame}
 use Rattle.geometry.proofs.Turned.{abs-changed, team-changed, sign-changed, goal-line-changed, numbered-changed}
 use Rattle.places.specs.Places.{goalLineX, touchlineY, areaLineX, areaLineY, inOpponentArea, areaFreeKickPlace, freeKickPlace, restartPlace, ballAtRestart, markPlace, centerPlace, markOr, setPlayPlace, ballInSet, heading, shotX, seenShotPlace, penaltyShotPlace, postY, keeperPlace, checkedKeeperPlace, seenKeeperPlace, maybeKeeperPlace, penaltyGoalkeeperPlace}
-use Rattle.places.specs.Turned.{Located, FitsY, GivenHeading, from-zero, from-pi, ChangedPlace, none, ball, player}
+use Rattle.places.specs.Turned.{GivenHeading, from-zero, from-pi, ChangedPlace, none, ball, player}
 use Rattle.game.specs.declared.Placement.{Placement}
 use Rattle.places.proofs.Signs.{place-changed, copysign-changed, clamp-changed, zero-changed}
+
+-- ---- what is asked
+-- x and y of the ball are numbers
+pub record Located (b : Ball) : Type 0 where
+  pub x-number : Number binary32 (b .x)
+  pub y-number : Number binary32 (b .y)
+
+-- the y of a pose, where there is one, is a binary32, as every f32 is
+abbrev pub FitsY : SeenPose → Type 0
+FitsY Absent = T true
+FitsY (Present p) = T (fits binary32 (p .y))
 
 -- ---- the ball
 module _ (a b : Bool) (H : Float → Float → Type 0) where

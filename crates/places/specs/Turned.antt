@@ -1,28 +1,14 @@
 -- What a place is compared by after a change of the signs of x and y, as by a half turn: x changes its sign where a is true, and y where b is. Definitions only.
 use mathlib.Core.Path.{_≡_}
-use lib.Dec.{T}
 use mathlib.Core.Bool.{Bool, true, false, cond}
 use Prim.Native.Nat.{ℕ}
-use lib.Ieee.{Float, binary32, neg, fits}
+use lib.Ieee.{Float, neg}
 use Rattle.floats.specs.Arithmetic.{_*₃₂_, zero32, half, pi}
-use Rattle.floats.specs.Values.{Alike, Number}
-use Rattle.game.specs.declared.Ball.{Ball}
-use Rattle.game.specs.declared.SeenPose.{SeenPose}
-use Rattle.game.specs.declared.SeenPose.the-variants.{Absent, Present}
+use Rattle.floats.specs.Values.{Alike}
 use Rattle.game.specs.declared.Side.{Side}
 use Rattle.geometry.specs.Turned.{signed}
 use Rattle.game.specs.declared.Placement.{Placement}
 use Rattle.game.specs.declared.Placement.the-variants.{NoPlace, BallAt, PlayerAt}
-
--- x and y of the ball are numbers
-pub record Located (b : Ball) : Type 0 where
-  pub x-number : Number binary32 (b .x)
-  pub y-number : Number binary32 (b .y)
-
--- the y of a pose, where there is one, is a binary32, as every f32 is
-abbrev pub FitsY : SeenPose → Type 0
-FitsY Absent = T true
-FitsY (Present p) = T (fits binary32 (p .y))
 
 -- PI/2
 abbrev pub quarterTurn : Float

@@ -1,14 +1,18 @@
 -- What `recordAt` gives by the tests of the code, and where a whole record lies. Assumes nothing.
 use mathlib.Core.Path.{_≡_, refl, ap, sym, _∙_}
-use mathlib.Core.Bool.{Bool, true, false, cond}
+use mathlib.Core.Bool.{Bool, true, false, _&&_, cond}
 use mathlib.Core.List.{List, [], _∷_}
 use Prim.Native.Nat.{ℕ, zero, suc, _+_, _-_, _≤_, _<_}
 use native.Mathlib.Nat.{not-suc-le-zero, le-of-suc-le-suc}
 use native.Mathlib.Omega.{arith}
 use borrow.Author.Tests.{ltb-false, lt-ltb, le-ltb}
-use lib.Dec.{ltb}
+use lib.Dec.{eqb, ltb}
+use types.Run.{OneOf, miss}
+use denote.Enum.Declared.{tagOf}
 use lib.ListN.{length, take, drop, getD}
+use Rattle.numbers.proofs.Reading as Readings
 use Rattle.numbers.specs.declared.Reading.{Reading}
+use Rattle.numbers.specs.declared.Reading.the-variants.{Read, NotANumber, TooLarge}
 use Rattle.numbers.specs.Numbers.{numbersOf, readingOf, stored}
 use Rattle.records.specs.declared.Record.{Record}
 use Rattle.records.specs.declared.Found.{Found}
@@ -34,22 +38,38 @@ unfolding framed
 framed-whole size input k n m head ek en em h =
     simp (ek, en, em, le-ltb (size - input) (getD head 2 0 + getD head 3 0) (rw (en, em) at h))
 
--- ---- a place with 45 bytes or more after it, whose line has the reading g; b tells whether it is a head
-module _
-    (list : List ℕ) (at n : ℕ) (g : Reading) (b : Bool) (enough : 45 ≤ length list - at)
-    (read : g ≡ readingOf (take n (drop at list))) (tested : b ≡ isHead g (getD list (at + 44) 0)) (long : n ≡ 45) where
-  by-test : recordAt list at ≡ cond b (framed (length list) (at + 45) (headAt list at)) Broken
+-- ---- a reading with a fault is no head
+faulty : (g : Reading) (last : ℕ) → OneOf (1 ∷ 2 ∷ []) (tagOf Readings.the-type g) → false ≡ isHead g last
+faulty (Read n) last h = absurd (miss (1 ∷ 2 ∷ []) 0 tt h)
+faulty (NotANumber k) last h = refl
+faulty (TooLarge k) last h = refl
+
+-- ---- a place with 45 bytes or more after it, whose line has the reading g
+long : (at : ℕ) → at + 45 - at ≡ 45
+long at = omega arith
+
+module _ (list : List ℕ) (at : ℕ) (g : Reading) (enough : 45 ≤ length list - at) (read : g ≡ readingOf (take (at + 45 - at) (drop at list))) where
+  by-head : (b : Bool) → b ≡ isHead g (getD list (at + 44) 0) → recordAt list at ≡ cond b (framed (length list) (at + 45) (headAt list at)) Broken
   unfolding recordAt
-  by-test = simp (le-ltb (length list - at) 45 enough, tested, read, long)
+  by-head b tested = simp (le-ltb (length list - at) 45 enough, tested, read, long)
 
-  -- the numbers of the head were stored
-  pub at-head : (head : List ℕ) (r : Found) → b ≡ true → head ≡ stored (numbersOf (take n (drop at list))) (0 ∷ 0 ∷ 0 ∷ 0 ∷ []) → r ≡ framed (length list) (at + 45) head → r ≡ recordAt list at
-  at-head head r e eh er =
-      let same : head ≡ headAt list at = eh ∙ ap (λ (k : ℕ). stored (numbersOf (take k (drop at list))) (0 ∷ 0 ∷ 0 ∷ 0 ∷ [])) long in
-      er ∙ ap (framed (length list) (at + 45)) same ∙ sym (by-test ∙ ap (λ (t : Bool). cond t (framed (length list) (at + 45) (headAt list at)) Broken) e)
+  pub at-fault : OneOf (1 ∷ 2 ∷ []) (tagOf Readings.the-type g) → Broken ≡ recordAt list at
+  at-fault h = sym (by-head false (faulty g (getD list (at + 44) 0) h))
 
-  pub at-no-head : b ≡ false → Broken ≡ recordAt list at
-  at-no-head e = sym (by-test ∙ ap (λ (t : Bool). cond t (framed (length list) (at + 45) (headAt list at)) Broken) e)
+  -- n numbers were read: b tells whether they are four and a line feed is the last byte
+  module _ (n : ℕ) (told : g ≡ Read n) where
+    is-head : {b : Bool} → (eqb n 4 && eqb (getD list (at + 44) 0) 10) ≡ b → b ≡ isHead g (getD list (at + 44) 0)
+    is-head tested = sym tested ∙ sym (ap (λ (r : Reading). isHead r (getD list (at + 44) 0)) told)
+
+    -- the numbers of the head were stored
+    pub at-head : (head : List ℕ) (r : Found) → (eqb n 4 && eqb (getD list (at + 44) 0) 10) ≡ true
+        → head ≡ stored (numbersOf (take (at + 45 - at) (drop at list))) (0 ∷ 0 ∷ 0 ∷ 0 ∷ []) → r ≡ framed (length list) (at + 45) head → r ≡ recordAt list at
+    at-head head r tested eh er =
+        let same : head ≡ headAt list at = eh ∙ ap (λ (k : ℕ). stored (numbersOf (take k (drop at list))) (0 ∷ 0 ∷ 0 ∷ 0 ∷ [])) (long at) in
+        er ∙ ap (framed (length list) (at + 45)) same ∙ sym (by-head true (is-head tested))
+
+    pub at-no-head : (eqb n 4 && eqb (getD list (at + 44) 0) 10) ≡ false → Broken ≡ recordAt list at
+    at-no-head tested = sym (by-head false (is-head tested))
 
 -- ---- a whole record
 -- it lies in a list of so many bytes, the input before the answer

@@ -29,17 +29,6 @@ fn wide(x: u32) -> usize
     x as usize
 }
 
-// Whether a line with this reading and this last byte is a head.
-fn is_head(reading: Reading, last: u8) -> bool
-    ensures { λ r. ⌜ r ≡ Spec.isHead reading last ⌝ }
-{
-    match reading {
-        Reading::Read(n) => (n == 4) & (last == b'\n'),
-        Reading::NotANumber(_) => false,
-        Reading::TooLarge(_) => false,
-    }
-}
-
 // The record of a head whose input begins at this place, in a list of so many bytes.
 fn framed(size: usize, input: usize, head: &[u32; 4]) -> Found
     requires { ⌜ input ≤ size ⌝ }
@@ -72,7 +61,10 @@ pub fn record_at(list: &[u8], at: usize) -> Found
     let end = at + 45;
     let mut head = [0u32; 4];
     let reading = numbers::read_numbers(&list[at..end], &mut head);
-    if is_head(reading, list[at + 44]) {
+    let Reading::Read(n) = reading else {
+        return Found::Broken;
+    };
+    if (n == 4) & (list[at + 44] == b'\n') {
         return framed(list.len(), end, &head);
     }
     Found::Broken

@@ -1,14 +1,16 @@
-//! The command `compare`: the library and std against the exact answers, over every class of inputs.
+//! The commands `compare` and `mpfr`: the library and std against the exact answers, over every class of inputs.
 
 use crate::exact::{self, SIGN, Ties};
 use crate::inputs::{Class, Pair, total_weight};
+#[cfg(feature = "mpfr")]
+use crate::mpfr;
 use crate::wrong::{self, Wrong};
 use crate::{hypot_inputs, library, rem_inputs};
 use std::fmt;
 use std::mem;
 use std::process::ExitCode;
 
-struct Function {
+pub struct Function {
     name: &'static str,
     classes: &'static [Class],
     ours: fn(f32, f32) -> f32,
@@ -16,11 +18,13 @@ struct Function {
     exact: fn(f32, f32) -> f32,
     /// Another way to the exact answer, and where it has one.
     again: fn(f32, f32) -> Option<f32>,
+    /// What the two ways are.
+    ways: [&'static str; 2],
     wrong: &'static [Wrong],
     known: &'static [(f32, f32, f32)],
 }
 
-static FUNCTIONS: [Function; 2] = [
+pub static FUNCTIONS: [Function; 2] = [
     Function {
         name: "hypot",
         classes: &hypot_inputs::CLASSES,
@@ -28,6 +32,7 @@ static FUNCTIONS: [Function; 2] = [
         std: f32::hypot,
         exact: exact::hypot_by_squares,
         again: |x, y| exact::hypot_by_root(x, y, Ties::Even),
+        ways: ["squares", "a root"],
         wrong: &wrong::HYPOT,
         known: &KNOWN_HYPOT,
     },
@@ -38,10 +43,25 @@ static FUNCTIONS: [Function; 2] = [
         std: f32::rem_euclid,
         exact: exact::rem_euclid_by_powers,
         again: |x, y| Some(exact::rem_euclid_by_doubling(x, y)),
+        ways: ["powers", "doubling"],
         wrong: &wrong::REM_EUCLID,
         known: &KNOWN_REM_EUCLID,
     },
 ];
+
+/// hypot held to MPFR's answers, and these to the whole numbers'.
+#[cfg(feature = "mpfr")]
+pub static BY_MPFR: [Function; 1] = [Function {
+    name: "hypot",
+    classes: &hypot_inputs::CLASSES,
+    ours: library::hypot,
+    std: f32::hypot,
+    exact: mpfr::hypot,
+    again: |x, y| Some(exact::hypot_by_squares(x, y)),
+    ways: ["MPFR", "squares"],
+    wrong: &wrong::HYPOT,
+    known: &KNOWN_HYPOT,
+}];
 
 const UNIT: f32 = f32::from_bits(1);
 const SIGNALING: f32 = f32::from_bits(0x7f80_0001);
@@ -106,7 +126,7 @@ const KNOWN_REM_EUCLID: [(f32, f32, f32); 19] = [
 ];
 
 /// Which NaN comes out is left open; the sign of a zero is not.
-fn same(a: f32, b: f32) -> bool {
+pub fn same(a: f32, b: f32) -> bool {
     a.to_bits() == b.to_bits() || a.is_nan() && b.is_nan()
 }
 
@@ -313,9 +333,9 @@ impl Report {
     }
 
     fn print_ways(&mut self) {
-        let (twice, differ) = (self.twice, self.ways.count);
+        let (twice, differ, [one, other]) = (self.twice, self.ways.count, self.function.ways);
         println!(
-            "\nthe exact answer was found in two ways at {twice} inputs, and they differ at {differ}"
+            "\nthe exact answer was found by {one} and by {other} at {twice} inputs, and they differ at {differ}"
         );
         let first = mem::take(&mut self.ways.first);
         self.fail("the two exact ways", &first);
@@ -350,9 +370,9 @@ impl Report {
     }
 }
 
-pub fn run(count: u64, seed: u64) -> ExitCode {
+pub fn run(command: &str, functions: &'static [Function], count: u64, seed: u64) -> ExitCode {
     let mut failed = false;
-    for function in &FUNCTIONS {
+    for function in functions {
         println!("{}, seed {seed}", function.name);
         let mut report = Report::new(function);
         report.known_answers();
@@ -366,6 +386,6 @@ pub fn run(count: u64, seed: u64) -> ExitCode {
         }
         failed |= !report.failures.is_empty();
     }
-    println!("compare: {}", if failed { "failed" } else { "ok" });
+    println!("{command}: {}", if failed { "failed" } else { "ok" });
     ExitCode::from(u8::from(failed))
 }

@@ -17,7 +17,12 @@ has-avoidance-region-requires c κs = search needs
 
 returns : tie.Need-returns
 unfolding isAvoidanceRegionActive
-returns c = cc
+returns c =
+    let c1 = c .before in
+    let c2 = c1 .before in
+    let c3 = c2 .before in
+    let c4 = c3 .before in
+    simp (c4 .is-shootout .ensures, c3 .is-playing .ensures, c2 .is-some .ensures, c1 .has-avoidance-region .ensures)
 
 pub is-avoidance-region-active-spec : {M : Type 1} → statement M
 is-avoidance-region-active-spec =

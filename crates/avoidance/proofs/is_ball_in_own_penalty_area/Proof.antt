@@ -6,7 +6,7 @@ abs-requires : tie.Need-abs-requires
 abs-requires c κs = search needs
 
 returns : tie.Need-returns
-returns c = cc
+returns c = simp (c .before .before .before .abs .ensures)
 
 pub is-ball-in-own-penalty-area-spec : {M : Type 1} → statement M
 is-ball-in-own-penalty-area-spec = tie.close (tie.spec abs-requires returns)

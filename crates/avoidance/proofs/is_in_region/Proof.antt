@@ -17,7 +17,12 @@ is-ball-in-own-penalty-area-requires c κs = search needs
 
 returns : tie.Need-returns
 unfolding isInRegion
-returns c = cc
+returns c =
+    let c1 = c .before .before in
+    let c2 = c1 .before in
+    let c3 = c2 .before .before .before in
+    let c4 = c3 .before .before .before .before .before in
+    simp (c4 .is-on-own-goal-line .ensures, c3 .hypot .ensures, c2 .is-goal-kick .ensures, c1 .is-ball-in-own-penalty-area .ensures)
 
 pub is-in-region-spec : {M : Type 1} → statement M
 is-in-region-spec =

@@ -15,7 +15,7 @@ is-unpenalized-requires : tie.Need-is-unpenalized-requires
 is-unpenalized-requires c κs = search needs
 
 returns : tie.Need-returns
-returns c = cc
+returns c = simp (c .before .before .before .is-avoidance-region-active .ensures, c .before .before .opponent .ensures, c .before .is-side .ensures, c .is-unpenalized .ensures)
 
 pub must-avoid-spec : {M : Type 1} → statement M
 must-avoid-spec =

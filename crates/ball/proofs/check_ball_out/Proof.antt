@@ -17,7 +17,7 @@ unfolding ballJudgment
 returns c =
     let at-if1 = c .before .before in
     let at-is-shootout = at-if1 .before .before in
-    simp (← at-is-shootout .before .is-playing .ensures, at-if1 .if1 .taken, ← at-is-shootout .is-shootout .ensures, c .before .if2 .taken, c .judge-shootout .ensures)
+    rw (← at-is-shootout .before .is-playing .ensures, at-if1 .if1 .taken, ← at-is-shootout .is-shootout .ensures, c .before .if2 .taken, c .judge-shootout .ensures)
 
 defender-of-requires : tie.Need-defender-of-requires
 defender-of-requires c κs = search needs
@@ -41,7 +41,7 @@ returns-2 c =
     let at-if2 = at-defender-of .before .before in
     let at-if1 = at-if2 .before in
     let at-is-shootout = at-if1 .before .before in
-    simp (← at-is-shootout .before .is-playing .ensures, at-if1 .if1 .taken, ← at-is-shootout .is-shootout .ensures, at-if2 .if2 .left, ← at-defender-of .defender-of .ensures, c .before .enum-told .given .1) (c .judge-play .ensures)
+    rw (← at-is-shootout .before .is-playing .ensures, at-if1 .if1 .taken, ← at-is-shootout .is-shootout .ensures, at-if2 .if2 .left, ← at-defender-of .defender-of .ensures, c .before .enum-told .given .1) (c .judge-play .ensures)
 
 returns-3 : tie.Need-returns-3
 unfolding ballJudgment
@@ -50,11 +50,11 @@ returns-3 c =
     let at-if2 = at-defender-of .before .before in
     let at-if1 = at-if2 .before in
     let at-is-shootout = at-if1 .before .before in
-    simp (← at-is-shootout .before .is-playing .ensures, at-if1 .if1 .taken, ← at-is-shootout .is-shootout .ensures, at-if2 .if2 .left, ← at-defender-of .defender-of .ensures, c .before .enum-told2 .given .1) (c .judge-play2 .ensures)
+    rw (← at-is-shootout .before .is-playing .ensures, at-if1 .if1 .taken, ← at-is-shootout .is-shootout .ensures, at-if2 .if2 .left, ← at-defender-of .defender-of .ensures, c .before .enum-told2 .given .1) (c .judge-play2 .ensures)
 
 returns-4 : tie.Need-returns-4
 unfolding ballJudgment
-returns-4 c = simp (← c .before .before .before .is-playing .ensures, c .if1 .left)
+returns-4 c = rw (← c .before .before .before .is-playing .ensures, c .if1 .left)
 
 pub check-ball-out-spec : {M : Type 1} → statement M
 check-ball-out-spec = tie.close (tie.spec is-playing-requires is-shootout-requires judge-shootout-requires returns defender-of-requires enum-told judge-play-requires enum-told-2 judge-play-requires-2 returns-2 returns-3 returns-4)

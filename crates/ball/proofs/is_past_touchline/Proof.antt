@@ -6,7 +6,7 @@ abs-requires : tie.Need-abs-requires
 abs-requires c κs = search needs
 
 returns : tie.Need-returns
-returns c = cc
+returns c = simp (c .before .before .abs .ensures)
 
 pub is-past-touchline-spec : {M : Type 1} → statement M
 is-past-touchline-spec = tie.close (tie.spec abs-requires returns)

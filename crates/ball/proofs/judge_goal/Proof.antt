@@ -5,7 +5,7 @@ use Rattle.ball.proofs.judge_goal.Statement.{statement}
 use Rattle.ball.proofs.judge_goal.Tie as tie
 
 returns : tie.Need-returns
-returns c = simp (not-true (c .before .args .invalid-goals-judged) (c .if1 .taken))
+returns c = rw (not-true (c .before .args .invalid-goals-judged) (c .if1 .taken))
 
 enum-told : tie.Need-enum-told
 enum-told c = search needs
@@ -18,7 +18,7 @@ unfolding judgeRestartGoal
 returns-2 c =
     let at-restart = c .before .before in
     let at-if1 = at-restart .before .before in
-    simp (not-false (at-if1 .before .args .invalid-goals-judged) (at-if1 .if1 .left), at-restart .restart .given .1, c .if2 .taken)
+    rw (not-false (at-if1 .before .args .invalid-goals-judged) (at-if1 .if1 .left), at-restart .restart .given .1, c .if2 .taken)
 
 opponent-requires : tie.Need-opponent-requires
 opponent-requires c κs = search needs
@@ -38,7 +38,7 @@ returns-3 c =
     let at-if2 = at-opponent .before in
     let at-restart = at-if2 .before .before in
     let at-if1 = at-restart .before .before in
-    simp (not-false (at-if1 .before .args .invalid-goals-judged) (at-if1 .if1 .left), at-restart .restart .given .1, at-if2 .if2 .left, ← at-opponent .opponent .ensures, ← at-same-side .same-side .ensures, at-if3 .if3 .taken, ← c .before .is-penalty-shot .ensures, c .if4 .taken)
+    rw (not-false (at-if1 .before .args .invalid-goals-judged) (at-if1 .if1 .left), at-restart .restart .given .1, at-if2 .if2 .left, ← at-opponent .opponent .ensures, ← at-same-side .same-side .ensures, at-if3 .if3 .taken, ← c .before .is-penalty-shot .ensures, c .if4 .taken)
 
 returns-4 : tie.Need-returns-4
 unfolding judgeRestartGoal
@@ -49,7 +49,7 @@ returns-4 c =
     let at-if2 = at-opponent .before in
     let at-restart = at-if2 .before .before in
     let at-if1 = at-restart .before .before in
-    simp (not-false (at-if1 .before .args .invalid-goals-judged) (at-if1 .if1 .left), at-restart .restart .given .1, at-if2 .if2 .left, ← at-opponent .opponent .ensures, ← at-same-side .same-side .ensures, at-if3 .if3 .taken, ← c .before .is-penalty-shot .ensures, c .if4 .left)
+    rw (not-false (at-if1 .before .args .invalid-goals-judged) (at-if1 .if1 .left), at-restart .restart .given .1, at-if2 .if2 .left, ← at-opponent .opponent .ensures, ← at-same-side .same-side .ensures, at-if3 .if3 .taken, ← c .before .is-penalty-shot .ensures, c .if4 .left)
 
 may-score-requires : tie.Need-may-score-requires
 may-score-requires c κs = search needs
@@ -68,7 +68,7 @@ returns-5 c =
 returns-6 : tie.Need-returns-6
 returns-6 c =
     let at-if1 = c .before .before in
-    simp (not-false (at-if1 .before .args .invalid-goals-judged) (at-if1 .if1 .left), c .enum-told .given .1)
+    rw (not-false (at-if1 .before .args .invalid-goals-judged) (at-if1 .if1 .left), c .enum-told .given .1)
 
 returns-7 : tie.Need-returns-7
 unfolding judgeRestartGoal

@@ -32,7 +32,7 @@ returns c =
     let at-is-past-touchline = at-is-in-goal .before in
     let at-is-past-goal-line = at-is-past-touchline .before in
     let at-side-to-sign = at-is-past-goal-line .before in
-    simp (at-side-to-sign .before .before .kicking-side .given .1, ← at-side-to-sign .side-to-sign .ensures, ← at-is-past-goal-line .is-past-goal-line .ensures, ← at-is-past-touchline .is-past-touchline .ensures, ← at-is-in-goal .is-in-goal .ensures, ← at-is-shot-taken .is-shot-taken .ensures, c .if1 .taken)
+    rw (at-side-to-sign .before .before .kicking-side .given .1, ← at-side-to-sign .side-to-sign .ensures, ← at-is-past-goal-line .is-past-goal-line .ensures, ← at-is-past-touchline .is-past-touchline .ensures, ← at-is-in-goal .is-in-goal .ensures, ← at-is-shot-taken .is-shot-taken .ensures, c .if1 .taken)
 
 returns-2 : tie.Need-returns-2
 unfolding judgeShot
@@ -42,10 +42,10 @@ returns-2 c =
     let at-is-past-touchline = at-is-in-goal .before in
     let at-is-past-goal-line = at-is-past-touchline .before in
     let at-side-to-sign = at-is-past-goal-line .before in
-    simp (at-side-to-sign .before .before .kicking-side .given .1, ← at-side-to-sign .side-to-sign .ensures, ← at-is-past-goal-line .is-past-goal-line .ensures, ← at-is-past-touchline .is-past-touchline .ensures, ← at-is-in-goal .is-in-goal .ensures, ← at-is-shot-taken .is-shot-taken .ensures, c .before .if1 .left, c .if2 .taken)
+    rw (at-side-to-sign .before .before .kicking-side .given .1, ← at-side-to-sign .side-to-sign .ensures, ← at-is-past-goal-line .is-past-goal-line .ensures, ← at-is-past-touchline .is-past-touchline .ensures, ← at-is-in-goal .is-in-goal .ensures, ← at-is-shot-taken .is-shot-taken .ensures, c .before .if1 .left, c .if2 .taken)
 
 returns-3 : tie.Need-returns-3
-returns-3 c = simp (c .enum-told .given .1)
+returns-3 c = rw (c .enum-told .given .1)
 
 returns-4 : tie.Need-returns-4
 unfolding judgeShot
@@ -55,7 +55,7 @@ returns-4 c =
     let at-is-past-touchline = at-is-in-goal .before in
     let at-is-past-goal-line = at-is-past-touchline .before in
     let at-side-to-sign = at-is-past-goal-line .before in
-    simp (at-side-to-sign .before .before .kicking-side .given .1, ← at-side-to-sign .side-to-sign .ensures, ← at-is-past-goal-line .is-past-goal-line .ensures, ← at-is-past-touchline .is-past-touchline .ensures, ← at-is-in-goal .is-in-goal .ensures, ← at-is-shot-taken .is-shot-taken .ensures, c .before .if1 .left, c .if2 .left)
+    rw (at-side-to-sign .before .before .kicking-side .given .1, ← at-side-to-sign .side-to-sign .ensures, ← at-is-past-goal-line .is-past-goal-line .ensures, ← at-is-past-touchline .is-past-touchline .ensures, ← at-is-in-goal .is-in-goal .ensures, ← at-is-shot-taken .is-shot-taken .ensures, c .before .if1 .left, c .if2 .left)
 
 pub judge-shootout-spec : {M : Type 1} → statement M
 judge-shootout-spec = tie.close (tie.spec enum-told enum-known-kicking-side side-to-sign-requires is-past-goal-line-requires is-past-touchline-requires is-in-goal-requires is-shot-taken-requires returns returns-2 returns-3 returns-4)

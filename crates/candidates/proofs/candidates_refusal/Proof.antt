@@ -1,6 +1,8 @@
 -- The walk counts the candidates after the first.
+use mathlib.Core.Path.{sym, _∙_}
 use borrow.Author.Needs.{needs}
-use Rattle.candidates.proofs.CandidatesList.{held, refusal-told}
+use Rattle.tries.proofs.CandidatesList.{held}
+use Rattle.candidates.proofs.CandidatesAnswer.{refused-5, refused-6, not-refused}
 use Rattle.candidates.proofs.candidates_refusal.Statement.{statement}
 use Rattle.candidates.proofs.candidates_refusal.Tie as tie
 
@@ -10,24 +12,32 @@ walk-of-requires c κs = search needs
 unfit-requires : tie.Need-unfit-requires
 unfit-requires c κs = search needs
 
-cast-refusal : tie.Need-cast-refusal
-cast-refusal c = search needs
-
-add-refusal : tie.Need-add-refusal
-add-refusal c = search needs
-
-refusal-requires : tie.Need-refusal-requires
-refusal-requires c κs = search needs
+cast-too-long : tie.Need-cast-too-long
+cast-too-long c = search needs
 
 returns : tie.Need-returns
 returns c =
-    let w = c .before .before .before in
-    let a = w .before .args in
-    let f = held (a .start) (a .min) (a .max) (a .step) (w .before .good) in
-    refusal-told (a .start) (a .min) (a .max) (a .step) f (c .before .before .unfit .result) (w .walk-of .result .count) (a .len) (c .refusal .result)
-    (c .before .before .unfit .ensures) (w .walk-of .ensures .1) (c .refusal .ensures)
+    let u = c .before .before in
+    let a = u .before .before .args in
+    sym (refused-5 (a .start) (a .min) (a .max) (a .step) (a .len) (sym (u .unfit .ensures) ∙ c .if1 .taken))
+
+returns-2 : tie.Need-returns-2
+returns-2 c =
+    let u = c .before .before .before in
+    let w = u .before in
+    let start = w .before in
+    let a = start .args in
+    let f = held (a .start) (a .min) (a .max) (a .step) (start .good) in
+    sym (refused-6 (a .start) (a .min) (a .max) (a .step) f (w .walk-of .result .count) (a .len) (w .walk-of .ensures .1) (sym (u .unfit .ensures) ∙ c .before .if1 .left) (c .if2 .taken))
+
+returns-3 : tie.Need-returns-3
+returns-3 c =
+    let u = c .before .before .before in
+    let w = u .before in
+    let start = w .before in
+    let a = start .args in
+    let f = held (a .start) (a .min) (a .max) (a .step) (start .good) in
+    sym (not-refused (a .start) (a .min) (a .max) (a .step) f (w .walk-of .result .count) (a .len) (w .walk-of .ensures .1) (sym (u .unfit .ensures) ∙ c .before .if1 .left) (c .if2 .left))
 
 pub candidates-refusal-spec : {M : Type 1} → statement M
-candidates-refusal-spec =
-    tie.close
-    (tie.spec walk-of-requires unfit-requires cast-refusal add-refusal refusal-requires returns)
+candidates-refusal-spec = tie.close (tie.spec walk-of-requires unfit-requires cast-too-long returns returns-2 returns-3)

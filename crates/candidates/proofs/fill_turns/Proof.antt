@@ -9,9 +9,9 @@ use lib.Ieee.{Float, le}
 use Rattle.lists.specs.Gather.{flatTo}
 use Rattle.lists.specs.Put.{countIf, putIf, fronted}
 use Rattle.lists.proofs.Put.{fronted-none, put-done}
+use Rattle.floats.specs.Arithmetic.{_+₃₂_, _-₃₂_, _*₃₂_}
 use Rattle.spacing.specs.Spacing.{placesAt}
-use Rattle.candidates.proofs.CandidatesWalk.{turn-room, count-grows}
-use Rattle.candidates.proofs.CandidatesFill.{rooms, room-after, put-grows}
+use Rattle.candidates.proofs.CandidatesFill.{rooms, room-after, turn-adds, turn-room, count-two, put-two}
 use Rattle.candidates.proofs.fill_turns.Statement.{statement}
 use Rattle.candidates.proofs.fill_turns.Tie as tie
 
@@ -26,42 +26,40 @@ loop-holds : tie.Need-loop-holds Inv-loop μ-loop
 unfolding flatTo
 loop-holds c = let a = c .before .args in (search needs, refl, fronted-none (placesAt (a .first) (a .min) (a .max) (a .step)) _, refl)
 
-add-towards-goal-line : tie.Need-add-towards-goal-line Inv-loop μ-loop
-add-towards-goal-line c = search needs
+add-from-count : tie.Need-add-from-count Inv-loop μ-loop
+add-from-count c = search needs
 
-towards-goal-line-requires : tie.Need-towards-goal-line-requires Inv-loop μ-loop
-towards-goal-line-requires c κs = search needs
-
-add-towards-halfway-line : tie.Need-add-towards-halfway-line Inv-loop μ-loop
-add-towards-halfway-line c = search needs
-
-towards-halfway-line-requires : tie.Need-towards-halfway-line-requires Inv-loop μ-loop
-towards-halfway-line-requires c κs = search needs
+from-count-requires : tie.Need-from-count-requires Inv-loop μ-loop
+from-count-requires c κs = search needs
 
 put-if-requires : tie.Need-put-if-requires Inv-loop μ-loop
 put-if-requires c κs =
-    let places = c .before in
-    let lower = places .before .towards-goal-line in
-    let upper = places .towards-halfway-line in
-    let at = places .before .before .before in
+    let turn = c .before in
+    let at = turn .before .before in
     let start = at .before .before in
     let a = start .args in
-    rooms (le (a .min) (lower .result)) (le (upper .result) (a .max)) (at .loop .n) (length (at .loop .list))
-    (turn-room (a .first) (a .min) (a .max) (a .step) (lower .result) (upper .result) (at .loop .k) (a .turns) (at .loop .n) (length (at .loop .list)) (places .before .before .loop-test .taken)
-    (lower .ensures) (upper .ensures) (at .loop .inv .3) (subst (λ (m : ℕ). length (flatTo (a .turns) (placesAt (a .first) (a .min) (a .max) (a .step))) ≤ m) (sym (at .loop .inv .1)) (start .pre)))
+    let lower = a .first -₃₂ turn .from-count .result *₃₂ a .step in
+    let upper = a .first +₃₂ turn .from-count .result *₃₂ a .step in
+    let adds = turn-adds (a .first) (a .min) (a .max) (a .step) (turn .from-count .result) (at .loop .k) (turn .from-count .ensures) in
+    rooms (le (a .min) lower) (le upper (a .max)) (at .loop .n) (length (at .loop .list))
+    (turn-room (placesAt (a .first) (a .min) (a .max) (a .step)) (le (a .min) lower) (le upper (a .max)) lower upper (at .loop .k) (at .loop .n) adds (at .loop .inv .3)
+    (a .turns) (length (at .loop .list)) (turn .before .loop-test .taken)
+    (subst (λ (m : ℕ). length (flatTo (a .turns) (placesAt (a .first) (a .min) (a .max) (a .step))) ≤ m) (sym (at .loop .inv .1)) (start .pre)))
 
 put-if-requires-2 : tie.Need-put-if-requires-2 Inv-loop μ-loop
 put-if-requires-2 c κs =
     let one = c .before .before .before in
-    let places = one .before .before in
-    let lower = places .before .towards-goal-line in
-    let upper = places .towards-halfway-line in
-    let at = places .before .before .before in
+    let turn = one .before .before in
+    let at = turn .before .before in
     let start = at .before .before in
     let a = start .args in
-    room-after (le (upper .result) (a .max)) (countIf (le (a .min) (lower .result)) (at .loop .n)) (one .put-if .result) (length (at .loop .list)) (length (one .put-if .last .0)) (one .put-if .ensures .0) (one .put-if .kept .0)
-    (turn-room (a .first) (a .min) (a .max) (a .step) (lower .result) (upper .result) (at .loop .k) (a .turns) (at .loop .n) (length (at .loop .list)) (places .before .before .loop-test .taken)
-    (lower .ensures) (upper .ensures) (at .loop .inv .3) (subst (λ (m : ℕ). length (flatTo (a .turns) (placesAt (a .first) (a .min) (a .max) (a .step))) ≤ m) (sym (at .loop .inv .1)) (start .pre)))
+    let lower = a .first -₃₂ turn .from-count .result *₃₂ a .step in
+    let upper = a .first +₃₂ turn .from-count .result *₃₂ a .step in
+    let adds = turn-adds (a .first) (a .min) (a .max) (a .step) (turn .from-count .result) (at .loop .k) (turn .from-count .ensures) in
+    room-after (le upper (a .max)) (countIf (le (a .min) lower) (at .loop .n)) (one .put-if .result) (length (at .loop .list)) (length (one .put-if .last .0)) (one .put-if .ensures .0) (one .put-if .kept .0)
+    (turn-room (placesAt (a .first) (a .min) (a .max) (a .step)) (le (a .min) lower) (le upper (a .max)) lower upper (at .loop .k) (at .loop .n) adds (at .loop .inv .3)
+    (a .turns) (length (at .loop .list)) (turn .before .loop-test .taken)
+    (subst (λ (m : ℕ). length (flatTo (a .turns) (placesAt (a .first) (a .min) (a .max) (a .step))) ≤ m) (sym (at .loop .inv .1)) (start .pre)))
 
 add-k : tie.Need-add-k Inv-loop μ-loop
 add-k c = search needs
@@ -73,21 +71,20 @@ loop-again : tie.Need-loop-again Inv-loop μ-loop
 loop-again c =
     let two = c .before .before in
     let one = two .before .before .before .before in
-    let places = one .before .before in
-    let lower = places .before .towards-goal-line in
-    let upper = places .towards-halfway-line in
-    let at = places .before .before .before in
+    let turn = one .before .before in
+    let at = turn .before .before in
     let start = at .before .before in
-    let a = start .args in (
+    let a = start .args in
+    let f = placesAt (a .first) (a .min) (a .max) (a .step) in
+    let lower = a .first -₃₂ turn .from-count .result *₃₂ a .step in
+    let upper = a .first +₃₂ turn .from-count .result *₃₂ a .step in
+    let adds = turn-adds (a .first) (a .min) (a .max) (a .step) (turn .from-count .result) (at .loop .k) (turn .from-count .ensures) in
+    let room = turn-room f (le (a .min) lower) (le upper (a .max)) lower upper (at .loop .k) (at .loop .n) adds (at .loop .inv .3) (a .turns) (length (now (a .list))) (turn .before .loop-test .taken) (start .pre) in (
       search needs,
       two .put-if2 .kept .0 ∙ one .put-if .kept .0 ∙ at .loop .inv .1,
-      put-grows (a .first) (a .min) (a .max) (a .step) (lower .result) (upper .result) (at .loop .k) (at .loop .n) (now (a .list)) (at .loop .list) (two .put-if2 .last .0) (lower .ensures) (upper .ensures)
-          (turn-room (a .first) (a .min) (a .max) (a .step) (lower .result) (upper .result) (at .loop .k) (a .turns) (at .loop .n) (length (now (a .list))) (places .before .before .loop-test .taken)
-          (lower .ensures) (upper .ensures) (at .loop .inv .3) (start .pre))
-          (at .loop .inv .2) (at .loop .inv .3)
-          (two .put-if2 .ensures .1 ∙ ap₂ (λ (l : List Float) (k : ℕ). putIf (le (upper .result) (a .max)) l k (upper .result)) (one .put-if .ensures .1) (one .put-if .ensures .0)),
-      count-grows (a .first) (a .min) (a .max) (a .step) (lower .result) (upper .result) (at .loop .k) (at .loop .n) (two .put-if2 .result) (lower .ensures) (upper .ensures) (at .loop .inv .3)
-          (two .put-if2 .ensures .0 ∙ ap (countIf (le (upper .result) (a .max))) (one .put-if .ensures .0)),
+      put-two f (le (a .min) lower) (le upper (a .max)) lower upper (at .loop .k) (at .loop .n) adds (at .loop .inv .3) (now (a .list)) (at .loop .list) (two .put-if2 .last .0) room (at .loop .inv .2)
+          (two .put-if2 .ensures .1 ∙ ap₂ (λ (l : List Float) (k : ℕ). putIf (le upper (a .max)) l k upper) (one .put-if .ensures .1) (one .put-if .ensures .0)),
+      two .put-if2 .ensures .0 ∙ ap (countIf (le upper (a .max))) (one .put-if .ensures .0) ∙ count-two f (le (a .min) lower) (le upper (a .max)) lower upper (at .loop .k) (at .loop .n) adds (at .loop .inv .3),
     )
 
 same-length : tie.Need-same-length Inv-loop μ-loop
@@ -106,10 +103,8 @@ fill-turns-spec =
     Inv-loop
     μ-loop
     loop-holds
-    add-towards-goal-line
-    towards-goal-line-requires
-    add-towards-halfway-line
-    towards-halfway-line-requires
+    add-from-count
+    from-count-requires
     put-if-requires
     put-if-requires-2
     add-k

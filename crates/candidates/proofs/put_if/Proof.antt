@@ -18,7 +18,7 @@ returns : tie.Need-returns
 returns c = (simp (c .if1 .taken), simp (c .if1 .taken))
 
 returns-2 : tie.Need-returns-2
-returns-2 c = search needs
+returns-2 c = (simp (c .if1 .left), simp (c .if1 .left))
 
 pub put-if-spec : {M : Type 1} → statement M
 put-if-spec =

@@ -12,7 +12,7 @@ max-requires : tie.Need-max-requires
 max-requires c κs = search needs
 
 returns : tie.Need-returns
-returns c = cc
+returns c = simp (c .before .before .before .before .before .before .abs .ensures, c .before .before .before .abs2 .ensures, c .max .ensures)
 
 pub carpet-excess-spec : {M : Type 1} → statement M
 carpet-excess-spec = tie.close (tie.spec abs-requires abs-requires-2 max-requires returns)

@@ -9,7 +9,7 @@ abs-requires-2 : tie.Need-abs-requires-2
 abs-requires-2 c κs = search needs
 
 returns : tie.Need-returns
-returns c = cc
+returns c = simp (c .before .before .before .before .before .abs .ensures, c .before .before .before .before .abs2 .ensures)
 
 pub is-outside-field-spec : {M : Type 1} → statement M
 is-outside-field-spec = tie.close (tie.spec abs-requires abs-requires-2 returns)

@@ -20,7 +20,12 @@ min-requires-3 c κs = search needs
 
 returns : tie.Need-returns
 unfolding marginsOf
-returns c = cc
+returns c =
+    let c1 = c .before in
+    let c2 = c1 .before in
+    let c3 = c2 .before .before .before .before .before .before .before in
+    let c4 = c3 .before in
+    simp (c4 .strip-margin .ensures, c3 .strip-margin2 .ensures, c2 .min .ensures, c1 .min2 .ensures, c .min3 .ensures)
 
 pub margins-of-spec : {M : Type 1} → statement M
 margins-of-spec =

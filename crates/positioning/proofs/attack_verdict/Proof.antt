@@ -20,7 +20,12 @@ attack-table-requires c κs = search needs
 
 returns : tie.Need-returns
 unfolding attackVerdict
-returns c = cc
+returns c =
+    let c1 = c .before .before in
+    let c2 = c1 .before in
+    let c3 = c2 .before in
+    let c4 = c3 .before .before .before in
+    simp (c4 .is-set .ensures, c3 .hypot .ensures, c2 .reaches .ensures, c1 .reaches2 .ensures, c .attack-table .ensures)
 
 pub attack-verdict-spec : {M : Type 1} → statement M
 attack-verdict-spec =

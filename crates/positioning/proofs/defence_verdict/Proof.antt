@@ -14,7 +14,7 @@ illegal-if-requires c κs = search needs
 
 returns : tie.Need-returns
 unfolding defenceVerdict
-returns c = cc
+returns c = simp (c .before .before .before .hypot .ensures, c .before .before .reaches .ensures, c .illegal-if .ensures)
 
 pub defence-verdict-spec : {M : Type 1} → statement M
 defence-verdict-spec =

@@ -15,7 +15,7 @@ is-unpenalized-requires : tie.Need-is-unpenalized-requires
 is-unpenalized-requires c κs = search needs
 
 returns : tie.Need-returns
-returns c = cc
+returns c = simp (c .before .before .before .is-shootout .ensures, c .before .before .is-set .ensures, c .before .is-playing .ensures, c .is-unpenalized .ensures)
 
 pub is-judged-spec : {M : Type 1} → statement M
 is-judged-spec =

@@ -23,7 +23,13 @@ kick-off-table-requires c κs = search needs
 
 returns : tie.Need-returns
 unfolding kickOffVerdict
-returns c = cc
+returns c =
+    let c1 = c .before in
+    let c2 = c1 .before in
+    let c3 = c2 .before in
+    let c4 = c3 .before in
+    let c5 = c4 .before .before in
+    simp (c5 .is-set .ensures, c4 .in-opponent-half .ensures, c3 .hypot .ensures, c2 .reaches .ensures, c1 .reaches2 .ensures, c .kick-off-table .ensures)
 
 pub kick-off-verdict-spec : {M : Type 1} → statement M
 kick-off-verdict-spec =

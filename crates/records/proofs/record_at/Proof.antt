@@ -1,10 +1,10 @@
-use Prim.Native.Nat.{_+_, _-_}
+use Prim.Native.Nat.{_-_}
 use lib.ListN.{length}
 use native.Mathlib.Omega.{arith}
 use borrow.Author.Tests.{lt-ltb}
 use borrow.Author.Needs.{needs}
 use Rattle.records.specs.Records.{recordAt}
-use Rattle.records.proofs.Lying.{at-head, at-no-head}
+use Rattle.records.proofs.Lying.{at-head, at-no-head, at-fault}
 use Rattle.records.proofs.record_at.Statement.{statement}
 use Rattle.records.proofs.record_at.Tie as tie
 
@@ -37,34 +37,35 @@ slice-aggregate-read-numbers c = search needs
 read-numbers-requires : tie.Need-read-numbers-requires
 read-numbers-requires c κs = search needs
 
-add-is-head : tie.Need-add-is-head
-add-is-head c = search needs
+enum-known-reading : tie.Need-enum-known-reading
+enum-known-reading c = search needs
 
-shared-slice-read-is-head : tie.Need-shared-slice-read-is-head
-shared-slice-read-is-head c = search needs
+returns-3 : tie.Need-returns-3
+returns-3 c =
+    let read = c .before .before in
+    at-fault _ _ (read .read-numbers .result) (read .before .before .before .if2 .left) (read .read-numbers .ensures .0) (c .match .keys2)
 
-is-head-requires : tie.Need-is-head-requires
-is-head-requires c κs = search needs
+add-if3 : tie.Need-add-if3
+add-if3 c = search needs
+
+shared-slice-read-if3 : tie.Need-shared-slice-read-if3
+shared-slice-read-if3 c = search needs
 
 framed-requires : tie.Need-framed-requires
 framed-requires c κs = search needs
 
-returns-3 : tie.Need-returns-3
-returns-3 c =
-    let test = c .before .before in
-    let head = test .before in
-    let read = head .before .before .before in
-    let tests = read .before .before .before in
-    let at = tests .before .before .before .args .at in
-    at-head _ at (at + 45 - at) _ _ (tests .if2 .left) (read .read-numbers .ensures .0) (head .is-head .ensures) (omega arith) _ _ (test .if3 .taken) (read .read-numbers .ensures .1) (c .framed .ensures)
-
 returns-4 : tie.Need-returns-4
 returns-4 c =
-    let head = c .before in
-    let read = head .before .before .before in
-    let tests = read .before .before .before in
-    let at = tests .before .before .before .args .at in
-    at-no-head _ at (at + 45 - at) _ _ (tests .if2 .left) (read .read-numbers .ensures .0) (head .is-head .ensures) (omega arith) (c .if3 .left)
+    let test = c .before .before in
+    let told = test .before .before .before in
+    let read = told .before .before .before in
+    at-head _ _ _ (read .before .before .before .if2 .left) (read .read-numbers .ensures .0) _ (told .reading .given .1) _ _ (test .if3 .taken) (read .read-numbers .ensures .1) (c .framed .ensures)
+
+returns-5 : tie.Need-returns-5
+returns-5 c =
+    let told = c .before .before .before in
+    let read = told .before .before .before in
+    at-no-head _ _ _ (read .before .before .before .if2 .left) (read .read-numbers .ensures .0) _ (told .reading .given .1) (c .if3 .left)
 
 pub record-at-spec : {M : Type 1} → statement M
 record-at-spec =
@@ -79,9 +80,10 @@ record-at-spec =
     part-read-numbers-end
     slice-aggregate-read-numbers
     read-numbers-requires
-    add-is-head
-    shared-slice-read-is-head
-    is-head-requires
-    framed-requires
+    enum-known-reading
     returns-3
-    returns-4)
+    add-if3
+    shared-slice-read-if3
+    framed-requires
+    returns-4
+    returns-5)

@@ -8,7 +8,7 @@ word-at-requires c κs = search needs
 
 returns : tie.Need-returns
 unfolding flagAt
-returns c = cc
+returns c = simp (c .word-at .ensures)
 
 pub flag-at-spec : {M : Type 1} → statement M
 flag-at-spec = tie.close (tie.spec word-at-requires returns)

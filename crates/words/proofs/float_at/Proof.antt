@@ -11,7 +11,7 @@ from-bits-requires c κs = search needs
 
 returns : tie.Need-returns
 unfolding floatAt
-returns c = cc
+returns c = simp (c .from-bits .ensures, c .before .word-at .ensures)
 
 pub float-at-spec : {M : Type 1} → statement M
 float-at-spec = tie.close (tie.spec word-at-requires from-bits-requires returns)

@@ -38,7 +38,30 @@ maybe-side-of-requires c κs = search needs
 
 returns : tie.Need-returns
 unfolding gameOf
-returns c = cc
+returns c =
+    let c1 = c .before in
+    let c2 = c1 .before in
+    let c3 = c2 .before in
+    let c4 = c3 .before in
+    let c5 = c4 .before in
+    let c6 = c5 .before in
+    let c7 = c6 .before in
+    let c8 = c7 .before in
+    let c9 = c8 .before in
+    let c10 = c9 .before in
+    simp (
+      c10 .word-at .ensures,
+      c9 .sides-of .ensures,
+      c8 .flag-at .ensures,
+      c7 .word-at2 .ensures,
+      c6 .phase-of .ensures,
+      c5 .word-at3 .ensures,
+      c4 .state-of .ensures,
+      c3 .word-at4 .ensures,
+      c2 .set-play-of .ensures,
+      c1 .word-at5 .ensures,
+      c .maybe-side-of .ensures,
+    )
 
 pub game-of-spec : {M : Type 1} → statement M
 game-of-spec =

@@ -44,7 +44,20 @@ flag-at-requires c κs = search needs
 
 returns : tie.Need-returns
 unfolding playerOf
-returns c = cc
+returns c =
+    let c1 = c .before in
+    let c2 = c1 .before in
+    let c3 = c2 .before in
+    let c4 = c3 .before in
+    let c5 = c4 .before in
+    simp (
+      c5 .seen-pose-at .ensures,
+      c4 .reference-pose-at .ensures,
+      c3 .word-at .ensures,
+      c2 .penalty-of .ensures,
+      c1 .float-at .ensures,
+      c .flag-at .ensures,
+    )
 
 pub player-of-spec : {M : Type 1} → statement M
 player-of-spec =

@@ -26,7 +26,7 @@ float-at-requires-4 c κs = search needs
 
 returns : tie.Need-returns
 unfolding poseAt
-returns c = cc
+returns c = simp (c .before .before .before .float-at .ensures, c .before .before .float-at2 .ensures, c .before .float-at3 .ensures, c .float-at4 .ensures)
 
 pub pose-at-spec : {M : Type 1} → statement M
 pose-at-spec =

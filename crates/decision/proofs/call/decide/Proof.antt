@@ -7,11 +7,11 @@ use Rattle.decision.proofs.call.decide.Tie as tie
 refusal-requires : tie.Need-refusal-requires
 refusal-requires c κs = search needs
 
-judged-requires : tie.Need-judged-requires
-judged-requires c κs = search needs
+decision-of-requires : tie.Need-decision-of-requires
+decision-of-requires c κs = search needs
 
 returns : tie.Need-returns
-returns c = answer-accepted _ _ _ _ _ (c .before .before .refusal .ensures) (c .before .if1 .taken) (c .judged .ensures)
+returns c = answer-accepted _ _ _ _ _ (c .before .before .refusal .ensures) (c .before .if1 .taken) (c .decision-of .ensures)
 
 empty-decision-requires : tie.Need-empty-decision-requires
 empty-decision-requires c κs = search needs
@@ -21,4 +21,4 @@ returns-2 c = answer-refused _ _ _ _ _ (c .before .before .refusal .ensures) (c 
 
 pub decide-spec : {M : Type 1} → statement M
 decide-spec =
-    tie.close (tie.spec refusal-requires judged-requires returns empty-decision-requires returns-2)
+    tie.close (tie.spec refusal-requires decision-of-requires returns empty-decision-requires returns-2)

@@ -11,7 +11,7 @@ compute-margins-requires c κs = search needs
 
 returns : tie.Need-returns
 unfolding teamMargins
-returns c = cc
+returns c = simp (c .before .side-to-sign .ensures, c .compute-margins .ensures)
 
 pub side-margins-spec : {M : Type 1} → statement M
 side-margins-spec = tie.close (tie.spec side-to-sign-requires compute-margins-requires returns)

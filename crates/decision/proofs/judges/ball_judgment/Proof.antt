@@ -14,7 +14,7 @@ check-ball-out-requires c κs = search needs
 
 returns : tie.Need-returns
 unfolding ballCalled
-returns c = cc
+returns c = simp (c .before .before .players-on-field .ensures, c .before .players-on-field2 .ensures, c .check-ball-out .ensures)
 
 pub ball-judgment-spec : {M : Type 1} → statement M
 ball-judgment-spec =

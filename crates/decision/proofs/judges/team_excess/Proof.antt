@@ -19,16 +19,19 @@ goal-area-excess-requires c κs = search needs
 returns : tie.Need-returns
 returns c =
     let playing = c .before .before in
-    let a = playing .before .before .before .args in
-    excess-told (a .game) _ _ _ _ (cc) (playing .is-playing .ensures) (c .goal-area-excess .ensures)
+    let set = playing .before in
+    let asked = simp (set .before .is-shootout .ensures, set .is-set .ensures, playing .is-playing .ensures) at (c .before .if1 .taken) in
+    excess-told (set .before .before .args .game) _ _ _ _ asked (playing .is-playing .ensures) (c .goal-area-excess .ensures)
 
 empty-list-requires : tie.Need-empty-list-requires
 empty-list-requires c κs = search needs
 
 returns-2 : tie.Need-returns-2
 returns-2 c =
-    let a = c .before .before .before .before .before .args in
-    excess-none (a .game) _ _ _ (cc) (c .empty-list .ensures)
+    let playing = c .before .before in
+    let set = playing .before in
+    let asked = simp (set .before .is-shootout .ensures, set .is-set .ensures, playing .is-playing .ensures) at (c .before .if1 .left) in
+    excess-none (set .before .before .args .game) _ _ _ asked (c .empty-list .ensures)
 
 pub team-excess-spec : {M : Type 1} → statement M
 team-excess-spec =

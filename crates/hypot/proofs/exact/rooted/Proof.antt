@@ -2,9 +2,10 @@ use borrow.Author.Needs.{needs}
 use Prim.Native.Nat.{ℕ, _+_, _*_, _/_, _%_, _^_, _≤_, _<_}
 use native.Mathlib.Omega.{arith}
 use native.Mathlib.Nat.{mod-eq-of-lt, div-mul-le-self}
-use mathlib.Core.Path.{_≡_, subst}
+use mathlib.Core.Path.{_≡_, refl, sym, _∙_}
+use mathlib.Core.Logic.{inl, inr}
 use mir.Facts.{fits-le}
-use Rattle.hypot.specs.Steps.{Flag}
+use Rattle.hypot.specs.Steps.{Flag, Rooted}
 use Rattle.hypot.proofs.Root.Small.{small, four-square, sum-small}
 use Rattle.hypot.proofs.exact.rooted.Statement.{statement}
 use Rattle.hypot.proofs.exact.rooted.Tie as tie
@@ -36,29 +37,35 @@ add-s c = omega (arith, sum-small (c .args .a) (c .args .b) (c .args .k) (c .pre
 root-requires : tie.Need-root-requires
 root-requires c κs = sum-small (c .args .a) (c .args .b) (c .args .k) (c .pre .0) (c .pre .1)
 
-mul-inexact : tie.Need-mul-inexact
-mul-inexact c = fits-le (c .root .ensures .0) (omega (arith, sum-small (c .before .args .a) (c .before .args .b) (c .before .args .k) (c .before .pre .0) (c .before .pre .1)))
+mul-if1 : tie.Need-mul-if1
+mul-if1 c = fits-le (c .root .ensures .0) (omega (arith, sum-small (c .before .args .a) (c .before .args .b) (c .before .args .k) (c .before .pre .0) (c .before .pre .1)))
 
-shl-inexact : tie.Need-shl-inexact
-shl-inexact c = search needs
+shl-if2 : tie.Need-shl-if2
+shl-if2 c = search needs
 
-inexact-requires : tie.Need-inexact-requires
-inexact-requires c κs = search needs
+found : (a b k t x : ℕ) → (a < 2 ^ 24) × (b < 2 ^ 24) × (k < 64) → (t * t ≤ 4 * a * a + 4 * b * b / 2 ^ k) × (4 * a * a + 4 * b * b / 2 ^ k < (t + 1) * (t + 1))
+    → Flag x (t * t) (4 * a * a + 4 * b * b / 2 ^ k) (4 * b * b / 2 ^ k * 2 ^ k) (4 * b * b) → Rooted a b k t x
+found a b k t x h r f = record {
+  small = small t (4 * a * a + 4 * b * b / 2 ^ k) (r .0) (sum-small a b k (h .0) (h .1));
+  lower = r .0;
+  upper = r .1;
+  flag = f;
+}
 
 returns : tie.Need-returns
 returns c =
-    let at-root = c .before in
-    let start = at-root .before in
-    let a = start .args .a in
-    let b = start .args .b in
-    let k = start .args .k in
-    let t = at-root .root .result in
-    record {
-      small = small t (4 * a * a + 4 * b * b / 2 ^ k) (at-root .root .ensures .0) (sum-small a b k (start .pre .0) (start .pre .1));
-      lower = at-root .root .ensures .0;
-      upper = at-root .root .ensures .1;
-      flag = subst (λ (v : ℕ). Flag (c .inexact .result) (t * t) (4 * a * a + 4 * b * b / 2 ^ k) v (4 * b * b)) (shifted b k (start .pre .1)) (c .inexact .ensures);
-    }
+    let at-root = c .before .before in
+    let h = at-root .before .pre in
+    found _ _ _ _ 0 h (at-root .root .ensures) (inl (refl, c .before .if1 .taken, sym (shifted _ _ (h .1)) ∙ c .if2 .taken))
+
+returns-2 : tie.Need-returns-2
+returns-2 c =
+    let at-root = c .before .before in
+    let h = at-root .before .pre in
+    found _ _ _ _ 1 h (at-root .root .ensures) (inr (refl, inr (λ e. c .if2 .left (shifted _ _ (h .1) ∙ e))))
+
+returns-3 : tie.Need-returns-3
+returns-3 c = found _ _ _ _ 1 (c .before .before .pre) (c .before .root .ensures) (inr (refl, inl (c .if1 .left)))
 
 pub rooted-spec : {M : Type 1} → statement M
 rooted-spec =
@@ -71,7 +78,8 @@ rooted-spec =
     mul-s-2
     add-s
     root-requires
-    mul-inexact
-    shl-inexact
-    inexact-requires
-    returns)
+    mul-if1
+    shl-if2
+    returns
+    returns-2
+    returns-3)

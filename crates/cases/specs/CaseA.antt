@@ -1,0 +1,79 @@
+-- Case A of document 01, its variants, and the situations of the document's other cases. Definitions only.
+use mathlib.Core.Bool.{true}
+use mathlib.Core.List.{List, [], _∷_}
+use lib.Ieee.{Float, neg}
+use Rattle.floats.specs.Arithmetic.{zero32}
+use Rattle.game.specs.declared.Ball.{Ball}
+use Rattle.game.specs.declared.MaybeSide.{MaybeSide}
+use Rattle.game.specs.declared.MaybeSide.the-variants.{NoSide, Of}
+use Rattle.game.specs.declared.Penalty.{Penalty}
+use Rattle.game.specs.declared.Penalty.the-variants.{NoPenalty}
+use Rattle.game.specs.declared.Player.{Player}
+use Rattle.game.specs.declared.SeenPose.{SeenPose}
+use Rattle.game.specs.declared.SeenPose.the-variants.{Absent}
+use Rattle.game.specs.declared.SetPlay.the-variants.{NoSetPlay, KickOff, ThrowIn}
+use Rattle.game.specs.declared.Side.the-variants.{Home}
+use Rattle.game.specs.declared.Situation.{Situation}
+use Rattle.game.specs.declared.State.{State}
+use Rattle.game.specs.declared.State.the-variants.{Set, Playing}
+use Rattle.game.specs.declared.Team.{Team}
+use Rattle.game.specs.declared.Wish.the-variants.{Nothing, BallAtRestart, ForPenalty}
+use Rattle.cases.specs.Field.{_over_, gameIn, playerWith, seenAt, at, absent, team, situation}
+
+-- ---- case A
+-- Home: 2 at (6.5, 0), 3 at (6.5, 1), 4 as given, 5 at (6.75, 0.5), and those from 6 on; 2, 3 and 4 were inside
+abbrev pub homeWith : SeenPose → Penalty → List Player → Team
+homeWith pose penalty from6 =
+    team
+    (absent
+    ∷ playerWith (seenAt (13 over 2) zero32) NoPenalty true
+    ∷ playerWith (seenAt (13 over 2) (1 over 1)) NoPenalty true
+    ∷ playerWith pose penalty true
+    ∷ at (27 over 4) (1 over 2)
+    ∷ from6)
+
+-- where 4 is in A: at (6.25, -1)
+abbrev pub four : SeenPose
+four = seenAt (25 over 4) (neg (1 over 1))
+
+-- the ball at (x, y, 0.125)
+abbrev pub ballAt : Float → Float → Ball
+ballAt x y = record { x = x; y = y; z = 1 over 8 }
+
+-- FirstHalf, Playing, NoSetPlay, no kicking side, no wish: A with this ball and last contact
+abbrev pub withBall : Ball → MaybeSide → Situation
+withBall ball contact = situation (gameIn Playing NoSetPlay NoSide) (homeWith four NoPenalty []) ball contact Nothing
+
+-- A: the ball at (7.25, 1, 0.125), no contact
+abbrev pub caseA : Situation
+caseA = withBall (ballAt (29 over 4) (1 over 1)) NoSide
+
+-- ---- its variants
+-- A in Set with other players of Home
+abbrev pub inSet : Team → Situation
+inSet home = situation (gameIn Set NoSetPlay NoSide) home (ballAt (29 over 4) (1 over 1)) NoSide Nothing
+
+-- A in Set
+abbrev pub caseASet : Situation
+caseASet = inSet (homeWith four NoPenalty [])
+
+-- A in Set with 4 absent and Home 6 added at (6.75, -0.5)
+abbrev pub fourAbsent : Situation
+fourAbsent = inSet (homeWith Absent NoPenalty (at (27 over 4) (neg (1 over 2)) ∷ []))
+
+-- A with the ball at (0, 4.75, 0.125)
+abbrev pub untouched : Situation
+untouched = withBall (ballAt zero32 (19 over 4)) NoSide
+
+-- ---- others on its field
+-- nobody there, a throw-in with the ball at (8, 4.75), and its place at the restart wished for
+abbrev pub throwIn : Situation
+throwIn = situation (gameIn Playing ThrowIn NoSide) (team []) (ballAt (8 over 1) (19 over 4)) NoSide BallAtRestart
+
+-- Home 2 alone, radius 0.25, at (x, -0), and its penalty place wished for
+abbrev pub alone : Float → Situation
+alone x = situation (gameIn Playing NoSetPlay NoSide) (team (absent ∷ at x (neg zero32) ∷ [])) (ballAt zero32 zero32) NoSide (ForPenalty Home 2)
+
+-- KickOff, Home kicks, Home 2 of radius 0.25 at (0, 0.25)
+abbrev pub kickOffIn : State → Situation
+kickOffIn state = situation (gameIn state KickOff (Of Home)) (team (absent ∷ at zero32 (1 over 4) ∷ [])) (ballAt zero32 zero32) NoSide Nothing

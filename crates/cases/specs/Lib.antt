@@ -1,0 +1,9 @@
+pub mod Field
+pub mod CaseA
+pub mod Answers
+pub mod Table
+pub mod HalfTurn
+pub mod Candidates
+pub mod Excess
+pub mod Kicker
+pub mod Places

@@ -1,0 +1,67 @@
+-- The table of document 01's cases marked with *, in the document's order, on the field of its case A. Above the claims of a case stands its line of the document.
+-- Each claim is of the answer to a situation, or of the leaf or entry that the line names. Definitions only.
+use mathlib.Core.Path.{_≡_}
+use mathlib.Core.List.{[], _∷_, _++_}
+use Prim.Native.Nat.{_^_}
+use lib.ListN.{replicate}
+use lib.Ieee.{Float, neg}
+use Rattle.floats.specs.Arithmetic.{_+₃₂_, _*₃₂_, zero32, half, pi}
+use Rattle.hypot.specs.Hypot.{hypot}
+use Rattle.game.specs.declared.BallJudgment.the-variants.{NoJudgment, Goal, GoalKick, CornerKick, ThrowIn}
+use Rattle.game.specs.declared.MaybeSide.the-variants.{NoSide, Of}
+use Rattle.game.specs.declared.Placement.the-variants.{BallAt, PlayerAt}
+use Rattle.game.specs.declared.Positioning.the-variants.{Illegal, IllegalUnlessKicker}
+use Rattle.game.specs.declared.Side.the-variants.{Home, Away}
+use Rattle.game.specs.declared.State.the-variants.{Set, Playing}
+use Rattle.candidates.specs.Candidates.{answerOf as candidatesAnswer}
+use Rattle.refusals.specs.Refusals.{refusalOf}
+use Rattle.decision.specs.Decision.{sideMargins, decisionOf, answerOf}
+use Rattle.decision.specs.HalfTurn.{turned}
+use Rattle.sheet.specs.Sheet.{textOf}
+use Rattle.sheet.specs.declared.text.SheetAnswer.the-variants.{Refused, Written}
+use Rattle.call.specs.Call.{sheetAnswer, sheetAfter}
+use Rattle.cases.specs.Field.{_over_}
+use Rattle.cases.specs.CaseA.{ballAt, withBall, caseA, caseASet, fourAbsent, untouched, throwIn, alone, kickOffIn}
+use Rattle.cases.specs.Answers.{only, only2, answered, ownGoalAreas, sheetA}
+
+-- every case, each with its claims
+pub record Table : Type 0 where
+  -- * A whole.
+  pub a-whole : answerOf caseA [] [] ≡ answered (only 5) (Goal Away)
+  -- its sheet
+  pub a-sheet : textOf (decisionOf caseA [] []) ≡ sheetA
+  -- 135 bytes lent do; refusal 7: 135 needed, 134 lent
+  pub a-written : (sheetAnswer caseA [] [] 135 ≡ Written 135) × (sheetAnswer caseA [] [] 134 ≡ Refused 7)
+  -- bytes after the last line are kept, and all of them where there is no room
+  pub a-after : (sheetAfter caseA [] [] (replicate 137 7) ≡ sheetA ++ (7 ∷ 7 ∷ [])) × (sheetAfter caseA [] [] (replicate 134 7) ≡ replicate 134 7)
+  -- * A in Set: excess 4.
+  pub a-in-set : answerOf caseASet [] [] ≡ answered (only 4) NoJudgment
+  -- * A in Set with 4 absent and Home 6 added at (6.75, -0.5): margins of 2, 3, 5, 6 are 0.75, 0.75, 1, 1; excess 3.
+  pub four-absent-margins : ownGoalAreas (sideMargins fourAbsent Home) ≡ (3 over 4) ∷ (3 over 4) ∷ (1 over 1) ∷ (1 over 1) ∷ []
+  pub four-absent : answerOf fourAbsent [] [] ≡ answered (only 3) NoJudgment
+  -- * hypot(3, 4) = 5; hypot(0, -0) = +0.
+  pub hypot-3-4 : hypot (3 over 1) (4 over 1) ≡ 5 over 1
+  pub hypot-zeros : hypot zero32 (neg zero32) ≡ zero32
+  -- * Ball x 7.125, y 0: no judgment. 7.125 + 2^-21: goal.
+  pub on-goal-line : answerOf (withBall (ballAt (57 over 8) zero32) NoSide) [] [] ≡ answered (only 5) NoJudgment
+  pub past-goal-line : answerOf (withBall (ballAt (57 over 8 +₃₂ 1 over (2 ^ 21)) zero32) NoSide) [] [] ≡ answered (only 5) (Goal Away)
+  -- * Ball (7.25, 1.125, 0.125): goal kick Home; last contact Home: corner Away.
+  pub beside-goal : answerOf (withBall (ballAt (29 over 4) (9 over 8)) NoSide) [] [] ≡ answered (only 5) (GoalKick Home)
+  pub beside-goal-by-home : answerOf (withBall (ballAt (29 over 4) (9 over 8)) (Of Home)) [] [] ≡ answered (only 5) (CornerKick Away)
+  -- * Ball (0, 4.75, 0.125), no contact: throw-in Away; turned: Home.
+  pub between-halves : answerOf untouched [] [] ≡ answered (only 5) (ThrowIn Away)
+  pub between-halves-turned : answerOf (turned untouched) [] [] ≡ answered (only 5) (ThrowIn Home)
+  -- * Throw-in place for ball (8, 4.75): (6.96875, 4.46875).
+  pub throw-in-place : answerOf throwIn [] [] .decision .place ≡ BallAt (223 over 32) (143 over 32) (1 over 8)
+  -- * Candidates -5, -6.75, -0.25, step 2: -5, -3, -1. Step 1: -5, -6, -4, -3, -2, -1.
+  pub candidates-by-2 : candidatesAnswer (neg (5 over 1)) (neg (27 over 4)) (neg (1 over 4)) (2 over 1) 8200 ≡ neg (5 over 1) ∷ neg (3 over 1) ∷ neg (1 over 1) ∷ []
+  pub candidates-by-1 : candidatesAnswer (neg (5 over 1)) (neg (27 over 4)) (neg (1 over 4)) (1 over 1) 8200
+      ≡ neg (5 over 1) ∷ neg (6 over 1) ∷ neg (4 over 1) ∷ neg (3 over 1) ∷ neg (2 over 1) ∷ neg (1 over 1) ∷ []
+  -- * Candidates 0, 1, -1, 1: only 0.
+  pub candidates-crossed : candidatesAnswer zero32 (1 over 1) (neg (1 over 1)) (1 over 1) 8200 ≡ zero32 ∷ []
+  -- * Penalty place, Home 2, radius 0.25, y -0, nobody else: x 5, y -5.25. Wherever its x is; at x 0 the situation is accepted.
+  pub penalty-place : (x : Float) → decisionOf (alone x) [] [] .place ≡ PlayerAt Home 2 (5 over 1) (neg (21 over 4)) (pi *₃₂ half)
+  pub penalty-place-accepted : refusalOf (alone zero32) [] [] ≡ 0
+  -- * KickOff, Home kicks, Home 2 of radius 0.25 at (0, 0.25): Set Illegal, Playing IllegalUnlessKicker.
+  pub kick-off-in-set : answerOf (kickOffIn Set) [] [] .decision .home .verdicts ≡ only2 Illegal
+  pub kick-off-in-playing : answerOf (kickOffIn Playing) [] [] .decision .home .verdicts ≡ only2 IllegalUnlessKicker

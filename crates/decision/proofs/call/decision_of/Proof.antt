@@ -1,0 +1,49 @@
+-- Item by item, as the calls tell; both sides by their margins.
+use Rattle.decision.proofs.Told.{decision-told}
+use borrow.Author.Needs.{needs}
+use Rattle.decision.proofs.call.decision_of.Statement.{statement}
+use Rattle.decision.proofs.call.decision_of.Tie as tie
+
+side-margins-requires : tie.Need-side-margins-requires
+side-margins-requires c κs = search needs
+
+side-margins-requires-2 : tie.Need-side-margins-requires-2
+side-margins-requires-2 c κs = search needs
+
+team-decision-requires : tie.Need-team-decision-requires
+team-decision-requires c κs = search needs
+
+team-decision-requires-2 : tie.Need-team-decision-requires-2
+team-decision-requires-2 c κs = search needs
+
+kicking-player-requires : tie.Need-kicking-player-requires
+kicking-player-requires c κs = search needs
+
+ball-judgment-requires : tie.Need-ball-judgment-requires
+ball-judgment-requires c κs = search needs
+
+wished-place-requires : tie.Need-wished-place-requires
+wished-place-requires c κs = search needs
+
+returns : tie.Need-returns
+returns c =
+    let ball = c .before in
+    let kicker = ball .before in
+    let away = kicker .before in
+    let home = away .before in
+    let away-margins = home .before in
+    let home-margins = away-margins .before in
+    decision-told _ _ _ _ _ _ _ _ _ _ (home-margins .side-margins .ensures) (away-margins .side-margins2 .ensures) (home .team-decision .ensures) (away .team-decision2 .ensures) (kicker .kicking-player .ensures) (ball .ball-judgment .ensures) (c .wished-place .ensures)
+
+pub decision-of-spec : {M : Type 1} → statement M
+decision-of-spec =
+    tie.close
+    (tie.spec
+    side-margins-requires
+    side-margins-requires-2
+    team-decision-requires
+    team-decision-requires-2
+    kicking-player-requires
+    ball-judgment-requires
+    wished-place-requires
+    returns)

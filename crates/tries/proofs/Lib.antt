@@ -1,0 +1,3 @@
+pub mod CandidatesWalk
+pub mod CandidatesList
+pub mod CandidatesEnd
