@@ -100,21 +100,17 @@ fn home() -> Team {
     }
 }
 
-fn away() -> Team {
-    let nobody = absent();
-    let players = [nobody; 20];
-    let goalkeeper = MaybeNumber::NoNumber;
-    Team {
-        players,
-        goalkeeper,
-    }
-}
-
 fn case_a() -> Situation {
     let field = field();
     let game = game();
     let home = home();
-    let away = away();
+    let nobody = absent();
+    let players = [nobody; 20];
+    let goalkeeper = MaybeNumber::NoNumber;
+    let away = Team {
+        players,
+        goalkeeper,
+    };
     let ball = Ball {
         x: 7.25,
         y: 1.0,

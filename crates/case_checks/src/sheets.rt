@@ -12,20 +12,15 @@ const MOST: usize = 7680;
 // The numbers of an input: 563 words, how many earlier x and y there are, and the pattern of each of these.
 const NUMBERS: usize = 566;
 
-// Whether so many bytes are written for the input into the part of the bytes that is lent.
-fn writes(input: &[u8], bytes: &mut [u8], lent: usize, count: usize) -> bool {
-    if bytes.len() < lent {
-        return false;
-    }
-    desk::judge(input, &mut bytes[..lent]) == count
-}
-
 // Whether the input, with so many bytes lent, has this answer, and all other bytes are kept.
 pub(crate) fn judged(input: &[u8], lent: usize, answer: &[u8]) -> bool {
+    if MOST < lent {
+        return false;
+    }
     let mut bytes = [FILL; MOST];
-    let counted = writes(input, &mut bytes, lent, answer.len());
+    let n = desk::judge(input, &mut bytes[..lent]);
     let kept = records::holds(&bytes, answer, FILL);
-    counted & kept
+    kept & (n == answer.len())
 }
 
 // How many places there are, which is at most 4,097.

@@ -19,7 +19,7 @@ use Rattle.ball.specs.Ball.{ballJudgment}
 use Rattle.places.specs.Places.{ballAtRestart, ballInSet, penaltyShotPlace}
 use Rattle.penalty.specs.Penalty.{placeForPenalty}
 use Rattle.refusals.specs.Refusals.{poseFits, refusalOf}
-use Rattle.decision.specs.Decision.{teamVerdicts, emptyList, teamExcess, kickingPlayer, leavingPlayers, ballCalled, wishedPlace, teamMargins, teamDecision, sideMargins, sideDecision, decisionOf, answerOf}
+use Rattle.decision.specs.Decision.{teamVerdicts, emptyList, teamExcess, kickingPlayer, leavingPlayers, ballCalledAmong, ballCalled, wishedPlace, teamMargins, teamDecision, sideMargins, sideDecision, decisionOf, answerOf}
 use Rattle.lines.specs.Line.{columnByte, columnsOf, lineOf, linesOf}
 use Rattle.sheet.specs.Rows.{verdictRows, listRows, ballRows, placeRows, rowsOf, sheetRows}
 use Rattle.sheet.specs.Sheet.{textOf}
@@ -32,7 +32,7 @@ floats = tt
 
 -- an answer, down to the floats
 unfoldable pub answers : Unit {0}
-unfolding floats everyTo flatTo fronted listed numbersWhere marginsOf computeMargins isIllegallyPositioned isInAvoidanceRegion isAvoidanceRegionActive kickOffVerdict attackVerdict defenceVerdict crossed candidatesTo unfit firstCandidate countTo firstTo playersOnField goalAreaExcess determineKickingPlayer movedPlayers referencesAfter ballJudgment ballAtRestart ballInSet penaltyShotPlace placeForPenalty poseFits refusalOf teamVerdicts emptyList teamExcess kickingPlayer leavingPlayers ballCalled wishedPlace teamMargins teamDecision sideMargins sideDecision decisionOf answerOf
+unfolding floats everyTo flatTo fronted listed numbersWhere marginsOf computeMargins isIllegallyPositioned isInAvoidanceRegion isAvoidanceRegionActive kickOffVerdict attackVerdict defenceVerdict crossed candidatesTo unfit firstCandidate countTo firstTo playersOnField goalAreaExcess determineKickingPlayer movedPlayers referencesAfter ballJudgment ballAtRestart ballInSet penaltyShotPlace placeForPenalty poseFits refusalOf teamVerdicts emptyList teamExcess kickingPlayer leavingPlayers ballCalledAmong ballCalled wishedPlace teamMargins teamDecision sideMargins sideDecision decisionOf answerOf
 answers = tt
 
 -- a sheet, down to the floats

@@ -1,7 +1,7 @@
 // How much space there is at a point, as place_for_penalty measures it.
 ghost use mathlib.Core.Path.{_≡_};
 ghost use mathlib.Core.List.{map};
-ghost use Prim.Native.Nat.{_<_, min};
+ghost use Prim.Native.Nat.{_<_};
 ghost use Rattle.clearance.specs.Clearance as Spec;
 use game::Player;
 use game::SeenPose;
@@ -50,20 +50,15 @@ fn near_team(least: f32, team: Team, skip: u8, x: f32, y: f32) -> f32
     acc
 }
 
-fn lesser(a: usize, b: usize) -> usize
-    ensures { λ r. ⌜ r ≡ min a b ⌝ }
-{
-    if a < b {
-        return a;
-    }
-    b
-}
-
 // The least distance after the earlier places.
 fn near_places<'a>(least: f32, xs: &'a [f32], ys: &'a [f32], x: f32, y: f32) -> f32
     ensures { λ r. ⌜ r ≡ Spec.leastOf least (map (Spec.distanceFrom x y) (Spec.earlierSpots (now (xs .entry)) (now (ys .entry)))) ⌝ }
 {
-    let n = lesser(xs.len(), ys.len());
+    let n = if xs.len() < ys.len() {
+        xs.len()
+    } else {
+        ys.len()
+    };
     let mut acc = least;
     let mut k: usize = 0;
     while k < n {

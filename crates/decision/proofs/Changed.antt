@@ -27,7 +27,7 @@ use Rattle.penalty.proofs.Sizes as Sizes
 use Rattle.penalty.proofs.Turned.{sized-place-changed}
 use Rattle.refusals.specs.Refusals.{fieldFits, numbersFit, wishFits, distanceFits, five, conditionsOf, refusalOf}
 use Rattle.refusals.proofs.Refused.{poses-fit-changed, ball-fits-changed}
-use Rattle.decision.specs.Decision.{ballCalled, placeFor, wishedPlace, sideMargins, kickingPlayer, decisionOf}
+use Rattle.decision.specs.Decision.{ballCalledAmong, ballCalled, placeFor, wishedPlace, sideMargins, kickingPlayer, decisionOf}
 use Rattle.decision.specs.Changed.{changed, changedPlaces, keepsHeading, ChangedDecision, isExceptedBy, ExceptedBy, SignChangeClaim, MirrorImageClaim}
 use Rattle.decision.proofs.Parts.{Parts, parts, accepted-in-range}
 use Rattle.decision.proofs.Sides.{team-of-changed, side-margins-changed, side-same, kicking-changed}
@@ -43,18 +43,18 @@ refusal-changed a b s xs ys =
 module _ (a b : Bool) (s : Situation) (xs ys : List Float) (p : Parts s) where
   -- the judgment of the changed situation, the counts being the same
   counted : ballCalled (changed a b s) ≡ ballJudgment (changedGame a (s .game)) (s .field) (changedBall a b (s .ball)) (s .«last_contact») (s .restart) (s .«invalid_goals_judged») (s .«ball_rested») (playersOnField (s .home)) (playersOnField (s .away))
-  unfolding ballCalled
+  unfolding ballCalled ballCalledAmong
   counted =
       ap₂ (λ (m n : ℕ). ballJudgment (changedGame a (s .game)) (s .field) (changedBall a b (s .ball)) (s .«last_contact») (s .restart) (s .«invalid_goals_judged») (s .«ball_rested») m n) (count-changed a b (s .home)) (count-changed a b (s .away))
 
   ball-same : isExceptedBy a s ≡ false → ballCalled (changed a b s) ≡ ballCalled s
-  unfolding ballCalled
+  unfolding ballCalled ballCalledAmong
   ball-same e =
       counted
       ∙ judgment-changed a b (s .game) (s .field) (s .ball) (s .«last_contact») (s .restart) (s .«invalid_goals_judged») (s .«ball_rested») (playersOnField (s .home)) (playersOnField (s .away)) (p .located .x-number) (p .sized) e
 
   ball-differs : ExceptedBy a s → ballCalled (changed a b s) ≡ ballCalled s → ⊥
-  unfolding ballCalled
+  unfolding ballCalled ballCalledAmong
   ball-differs e h =
       judgment-differs a b (s .game) (s .field) (s .ball) (s .«last_contact») (s .restart) (s .«invalid_goals_judged») (s .«ball_rested») (playersOnField (s .home)) (playersOnField (s .away)) (p .located .x-number) (p .sized) e (sym counted ∙ h)
 

@@ -29,7 +29,7 @@ use Rattle.counts.specs.Counts.{playersOnField}
 use Rattle.ball.specs.Ball.{mayScore, judgeOwnGoal, judgeRestartGoal, judgeGoal, shotTaken, judgeShot, judgeShootout, playersOf, judgeHalf, defendingSide, isRunning, ballJudgment}
 use Rattle.ball.specs.declared.GoalJudgment.{GoalJudgment}
 use Rattle.ball.specs.declared.GoalJudgment.the-variants.{ValidGoal, Instead}
-use Rattle.decision.specs.Decision.{ballCalled, placeFor, wishedPlace, sideMargins, sideDecision, kickingPlayer, decisionOf}
+use Rattle.decision.specs.Decision.{ballCalledAmong, ballCalled, placeFor, wishedPlace, sideMargins, sideDecision, kickingPlayer, decisionOf}
 use Rattle.decision.specs.KickPlace.{kickedAt, restartKickedAt, withKickAt, KickPlaceClaim}
 
 module _ (x y : Float) where
@@ -75,7 +75,7 @@ module _ (x y : Float) where
   place-kept (Goalkeeper Away) s xs ys = refl
 
 pub kick-place : KickPlaceClaim
-unfolding decisionOf sideDecision sideMargins ballCalled wishedPlace
+unfolding decisionOf sideDecision sideMargins ballCalled ballCalledAmong wishedPlace
 kick-place x y s xs ys =
     ap₂ (λ (ball : BallJudgment) (place : Placement). record { home = sideDecision s Home; away = sideDecision s Away; kicker = kickingPlayer (s .game) (s .home) (s .away) (s .field) (sideMargins s Home) (sideMargins s Away); ball = ball; place = place })
     (judgment-kept x y (s .game) (s .field) (s .ball) (s .«last_contact») (s .restart) (s .«invalid_goals_judged») (s .«ball_rested») (playersOnField (s .home)) (playersOnField (s .away)))

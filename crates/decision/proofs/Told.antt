@@ -24,6 +24,7 @@ use Rattle.game.specs.declared.Team.{Team}
 use Rattle.game.specs.declared.Positioning.{Positioning}
 use Rattle.game.specs.Players.{playerNumbered}
 use Rattle.places.specs.Places.{penaltyShotPlace, penaltyGoalkeeperPlace}
+use Rattle.counts.specs.Counts.{playersOnField}
 use Rattle.excess.specs.Excess.{goalAreaExcess}
 use Rattle.kicker.specs.Kicker.{determineKickingPlayer}
 use Rattle.motion.specs.Motion.{movedPlayers, referencesAfter}
@@ -31,7 +32,7 @@ use Rattle.game.specs.declared.BallJudgment.{BallJudgment}
 use Rattle.game.specs.declared.PlayerReference.{PlayerReference}
 use Rattle.game.specs.declared.Placement.{Placement}
 use Rattle.refusals.specs.Refusals.{refusalOf}
-use Rattle.decision.specs.Decision.{teamVerdicts, isExcessAsked, emptyList, teamExcess, leavingPlayers, kickerNumbered, kickerIfAny, kickingPlayer, ballCalled, wishedPlace, teamMargins, teamDecision, sideMargins, sideDecision, decisionOf, emptyDecision, answerOf}
+use Rattle.decision.specs.Decision.{teamVerdicts, isExcessAsked, emptyList, teamExcess, leavingPlayers, kickerNumbered, kickerIfAny, kickingPlayer, ballCalledAmong, ballCalled, wishedPlace, teamMargins, teamDecision, sideMargins, sideDecision, decisionOf, emptyDecision, answerOf}
 use Rattle.game.specs.declared.SideDecision.{SideDecision}
 use Rattle.game.specs.declared.Decision.{Decision}
 use Rattle.decision.specs.declared.call.Answer.{Answer}
@@ -107,15 +108,15 @@ module _ (s : Situation) (xs ys : List Float) where
   kicks : List PlayerMargins → List PlayerMargins → KickingPlayer
   kicks hm am = kickingPlayer (s .game) (s .home) (s .away) (s .field) hm am
 
-  pub decision-told : (hm am : List PlayerMargins) (h a : SideDecision) (k : KickingPlayer) (b : BallJudgment) (p : Placement) → hm ≡ teamMargins (s .game) (s .field) Home (s .home) → am ≡ teamMargins (s .game) (s .field) Away (s .away)
-      → h ≡ teamDecision (s .game) (s .field) (s .ball) Home (s .home) hm → a ≡ teamDecision (s .game) (s .field) (s .ball) Away (s .away) am → k ≡ kickingPlayer (s .game) (s .home) (s .away) (s .field) hm am → b ≡ ballCalled s → p ≡ wishedPlace s xs ys
+  pub decision-told : (hm am : List PlayerMargins) (hn an : ℕ) (h a : SideDecision) (k : KickingPlayer) (b : BallJudgment) (p : Placement) → hm ≡ teamMargins (s .game) (s .field) Home (s .home) → am ≡ teamMargins (s .game) (s .field) Away (s .away) → hn ≡ playersOnField (s .home) → an ≡ playersOnField (s .away)
+      → h ≡ teamDecision (s .game) (s .field) (s .ball) Home (s .home) hm → a ≡ teamDecision (s .game) (s .field) (s .ball) Away (s .away) am → k ≡ kickingPlayer (s .game) (s .home) (s .away) (s .field) hm am → b ≡ ballCalledAmong s hn an → p ≡ wishedPlace s xs ys
       → record { home = h; away = a; kicker = k; ball = b; place = p } ≡ decisionOf s xs ys
-  unfolding whole kicks sideMargins sideDecision decisionOf
-  decision-told hm am h a k b p ehm eam eh ea ek eb ep =
+  unfolding whole kicks sideMargins sideDecision ballCalled decisionOf
+  decision-told hm am hn an h a k b p ehm eam ehn ean eh ea ek eb ep =
       ap (λ (z : SideDecision). whole z a k b p) (eh ∙ ap (teamDecision (s .game) (s .field) (s .ball) Home (s .home)) ehm)
       ∙ ap (λ (z : SideDecision). whole (sideDecision s Home) z k b p) (ea ∙ ap (teamDecision (s .game) (s .field) (s .ball) Away (s .away)) eam)
       ∙ ap (λ (z : KickingPlayer). whole (sideDecision s Home) (sideDecision s Away) z b p) (ek ∙ ap (λ (z : List PlayerMargins). kicks z am) ehm ∙ ap (kicks (sideMargins s Home)) eam)
-      ∙ ap (λ (z : BallJudgment). whole (sideDecision s Home) (sideDecision s Away) (kicks (sideMargins s Home) (sideMargins s Away)) z p) eb
+      ∙ ap (λ (z : BallJudgment). whole (sideDecision s Home) (sideDecision s Away) (kicks (sideMargins s Home) (sideMargins s Away)) z p) (eb ∙ ap (λ (n : ℕ). ballCalledAmong s n an) ehn ∙ ap (ballCalledAmong s (playersOnField (s .home))) ean)
       ∙ ap (whole (sideDecision s Home) (sideDecision s Away) (kicks (sideMargins s Home) (sideMargins s Away)) (ballCalled s)) ep
 
   -- ---- the answer: a number beside the decision that goes with it

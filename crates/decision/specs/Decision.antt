@@ -100,9 +100,13 @@ unfoldable pub leavingPlayers : Team → FieldDimensions → PlayerList
 leavingPlayers t f = numbersWhere (λ i. isLeaving (playerAt t i) f)
 
 -- ---- the ball judgment, or none
+-- where so many players of Home and of Away are on the field
+unfoldable pub ballCalledAmong : Situation → ℕ → ℕ → BallJudgment
+ballCalledAmong s home away = ballJudgment (s .game) (s .field) (s .ball) (s .«last_contact») (s .restart) (s .«invalid_goals_judged») (s .«ball_rested») home away
+
+-- by the players that both sides have there
 unfoldable pub ballCalled : Situation → BallJudgment
-ballCalled s =
-    ballJudgment (s .game) (s .field) (s .ball) (s .«last_contact») (s .restart) (s .«invalid_goals_judged») (s .«ball_rested») (playersOnField (s .home)) (playersOnField (s .away))
+ballCalled s = ballCalledAmong s (playersOnField (s .home)) (playersOnField (s .away))
 
 -- ---- the place wished for, or none
 -- of a player selected for a penalty shot

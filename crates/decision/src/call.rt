@@ -1,5 +1,6 @@
 // A decision: every item of document 01 for one situation, or the number of the refusal.
 ghost use mathlib.Core.Path.{_≡_};
+ghost use Rattle.counts.specs.Counts.{playersOnField};
 ghost use Rattle.decision.specs.Decision as Spec;
 use game::Ball;
 use game::BallJudgment;
@@ -50,13 +51,22 @@ fn team_decision(
     }
 }
 
-// The margins of a side's players.
-fn side_margins(game: Game, field: FieldDimensions, side: Side, team: Team) -> [PlayerMargins; 20]
-    ensures { λ r. ⌜ r ≡ Spec.teamMargins game field side team ⌝ }
+// What several items use of a side: its players' margins, and how many of them are on the field.
+struct Seen {
+    margins: [PlayerMargins; 20],
+    on_field: usize,
+}
+
+// The count stands beside the margins, and not where the ball is judged, for speed: in a function that is called for each side the compiler leaves both teams where they are.
+fn side_seen(game: Game, field: FieldDimensions, side: Side, team: Team) -> Seen
+    ensures { λ r. ⌜ r .margins ≡ Spec.teamMargins game field side team ⌝ }
+    ensures { λ r. ⌜ r .«on_field» ≡ playersOnField team ⌝ }
 {
     let sides = game.sides;
     let sign = geometry::side_to_sign(side, sides);
-    geometry::compute_margins(team, field, sign)
+    let margins = geometry::compute_margins(team, field, sign);
+    let on_field = counts::players_on_field(team);
+    Seen { margins, on_field }
 }
 
 // The decision on a situation, item by item. Whether the situation is to be refused is asked before.
@@ -68,8 +78,10 @@ pub fn decision_of<'a>(s: Situation, xs: &'a [f32], ys: &'a [f32]) -> Decision
     let b = s.ball;
     let home_team = s.home;
     let away_team = s.away;
-    let home_margins = side_margins(game, field, Side::Home, home_team);
-    let away_margins = side_margins(game, field, Side::Away, away_team);
+    let home_seen = side_seen(game, field, Side::Home, home_team);
+    let away_seen = side_seen(game, field, Side::Away, away_team);
+    let home_margins = home_seen.margins;
+    let away_margins = away_seen.margins;
     let home = team_decision(game, field, b, Side::Home, home_team, home_margins);
     let away = team_decision(game, field, b, Side::Away, away_team, away_margins);
     let kicker = super::judges::kicking_player(
@@ -80,7 +92,7 @@ pub fn decision_of<'a>(s: Situation, xs: &'a [f32], ys: &'a [f32]) -> Decision
         home_margins,
         away_margins,
     );
-    let ball = super::judges::ball_judgment(s);
+    let ball = super::judges::ball_judgment(s, home_seen.on_field, away_seen.on_field);
     let place = super::judges::wished_place(s, xs, ys);
     Decision {
         home,

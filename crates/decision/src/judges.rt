@@ -125,19 +125,15 @@ pub fn kicking_player(
     }
 }
 
-// What is called for the ball.
-pub fn ball_judgment(s: Situation) -> BallJudgment
-    ensures { λ r. ⌜ r ≡ Spec.ballCalled s ⌝ }
+// What is called for the ball, where so many players of Home and of Away are on the field.
+pub fn ball_judgment(s: Situation, home_players: usize, away_players: usize) -> BallJudgment
+    ensures { λ r. ⌜ r ≡ Spec.ballCalledAmong s «home_players» «away_players» ⌝ }
 {
     let game = s.game;
     let field = s.field;
     let ball = s.ball;
     let last_contact = s.last_contact;
     let restart = s.restart;
-    let home = s.home;
-    let away = s.away;
-    let home_players = counts::players_on_field(home);
-    let away_players = counts::players_on_field(away);
     ball::check_ball_out(
         game,
         field,

@@ -34,30 +34,10 @@ fn fill(q: Query, list: &mut [f32], lent: usize) -> usize {
     0
 }
 
-// The pattern that a place of the list has after that.
-fn filled_at(q: Query, lent: usize, i: usize) -> u32 {
-    let mut list = [FILL; MOST];
-    fill(q, &mut list, lent);
-    bits_at(&list, i)
-}
-
 // How many places the part has that is answered for the whole list.
 fn answered(q: Query, list: &mut [f32]) -> usize {
     let part = candidates::penalty_placement_candidates(q.start, q.min, q.max, q.step, list);
     part.len()
-}
-
-// The pattern at a place of that part.
-fn answered_at(q: Query, list: &mut [f32], i: usize) -> u32 {
-    let part = candidates::penalty_placement_candidates(q.start, q.min, q.max, q.step, list);
-    bits_at(part, i)
-}
-
-// The pattern that a place of the whole list has after that, in the part or behind it.
-fn left_at(q: Query, i: usize) -> u32 {
-    let mut list = [FILL; MOST];
-    answered(q, &mut list);
-    bits_at(&list, i)
 }
 
 pub(crate) fn value(function: u32, vector: &[u32]) -> u32 {
@@ -73,9 +53,27 @@ pub(crate) fn value(function: u32, vector: &[u32]) -> u32 {
     match function {
         13 => (fill(q, &mut list, lent) % 65536) as u32,
         14 => candidates::candidates_refusal(q.start, q.min, q.max, q.step, lent) as u32,
-        15 => filled_at(q, lent, i),
+        // A place of the list after 13.
+        15 => {
+            fill(q, &mut list, lent);
+            bits_at(&list, i)
+        }
         16 => (answered(q, &mut list) % 65536) as u32,
-        17 => answered_at(q, &mut list, i),
-        _ => left_at(q, i),
+        // A place of the part that 16 counts.
+        17 => {
+            let part = candidates::penalty_placement_candidates(
+                q.start,
+                q.min,
+                q.max,
+                q.step,
+                &mut list,
+            );
+            bits_at(part, i)
+        }
+        // A place of the whole list after 16, in the part or behind it.
+        _ => {
+            answered(q, &mut list);
+            bits_at(&list, i)
+        }
     }
 }

@@ -35,15 +35,6 @@ fn number(k: u32) -> f32 {
     }
 }
 
-// 0, 1 or 2, as the vectors have an order.
-fn rank(order: floats::Order) -> u32 {
-    match order {
-        floats::Order::Less => 0,
-        floats::Order::Equal => 1,
-        floats::Order::Greater => 2,
-    }
-}
-
 // What a vector's function gives at its operands.
 fn value(vector: &[u32]) -> u32 {
     let function = at(vector, 0);
@@ -60,7 +51,14 @@ fn value(vector: &[u32]) -> u32 {
         6 => bits(floats::min(x, y)),
         7 => bits(floats::max(x, y)),
         8 => bits(floats::clamp(x, y, z)),
-        9 => rank(floats::total_cmp(x, y)),
+        9 => {
+            let order = floats::total_cmp(x, y);
+            match order {
+                floats::Order::Less => 0,
+                floats::Order::Equal => 1,
+                floats::Order::Greater => 2,
+            }
+        }
         10 => bits(floats::rem_euclid(x, y)),
         11 => bits(hypot::hypot(x, y)),
         12 => bits(floats::from_count((a % 65536) as u16)),

@@ -153,14 +153,6 @@ fn wish_fits(wish: Wish) -> bool
     }
 }
 
-fn poses_fit<'a>(home: Team, away: Team, xs: &'a [f32], ys: &'a [f32]) -> bool
-    ensures { λ r. ⌜ r ≡ Spec.posesFit home away (now (xs .entry)) (now (ys .entry)) ⌝ }
-{
-    team_fits(home)
-        & team_fits(away)
-        & ((xs.len() == ys.len()) & (xs.len() <= 4096) & places_fit(xs) & places_fit(ys))
-}
-
 // The number of the first of the five that does not hold, or 0.
 fn first_failing(field: bool, poses: bool, ball: bool, numbers: bool, distance: bool) -> u8
     ensures { λ r. ⌜ r ≡ firstRefusal (Spec.five field poses ball numbers distance) ⌝ }
@@ -197,7 +189,9 @@ pub fn refusal<'a>(s: Situation, xs: &'a [f32], ys: &'a [f32]) -> u8
     let wish = s.wish;
     let distance = s.penalty_placement_distance;
     let a = field_fits(field);
-    let b = poses_fit(home, away, xs, ys);
+    let b = team_fits(home)
+        & team_fits(away)
+        & ((xs.len() == ys.len()) & (xs.len() <= 4096) & places_fit(xs) & places_fit(ys));
     let c = is_coordinate(ball.x) & is_coordinate(ball.y) & is_coordinate(ball.z);
     let d = number_fits(home_goalkeeper)
         & number_fits(away_goalkeeper)

@@ -17,15 +17,6 @@ struct Query {
     step: f32,
 }
 
-fn query_of(patterns: &[u32; 4]) -> Query {
-    Query {
-        start: from_bits(patterns[0]),
-        min: from_bits(patterns[1]),
-        max: from_bits(patterns[2]),
-        step: from_bits(patterns[3]),
-    }
-}
-
 // How many numbers were read; 0 also where something is no number.
 fn count_of(reading: Reading) -> usize {
     match reading {
@@ -33,10 +24,6 @@ fn count_of(reading: Reading) -> usize {
         Reading::NotANumber(_) => 0,
         Reading::TooLarge(_) => 0,
     }
-}
-
-fn wide(x: u32) -> usize {
-    x as usize
 }
 
 // The pattern at a place of a list; after its end a place is as it was lent.
@@ -60,21 +47,16 @@ fn holds(list: &[f32], patterns: &[u32]) -> bool {
     true
 }
 
-// Whether so many candidates are filled into the part of the list that is lent.
-fn fills(q: Query, list: &mut [f32], lent: usize, count: usize) -> bool {
-    if list.len() < lent {
-        return false;
-    }
-    candidates::fill_candidates(q.start, q.min, q.max, q.step, &mut list[..lent]) == count
-}
-
 // Whether the call gives these candidates and this refusal, 0 for none, and all other places are kept.
 fn gives(q: Query, lent: usize, patterns: &[u32], refusal: u32) -> bool {
+    if MOST < lent {
+        return false;
+    }
     let mut list = [FILL; MOST];
-    let counted = fills(q, &mut list, lent, patterns.len());
+    let count = candidates::fill_candidates(q.start, q.min, q.max, q.step, &mut list[..lent]);
     let kept = holds(&list, patterns);
     let told = candidates::candidates_refusal(q.start, q.min, q.max, q.step, lent);
-    counted & kept & (told as u32 == refusal)
+    kept & (count == patterns.len()) & (told as u32 == refusal)
 }
 
 // The same of the first n numbers of an answer: the number of candidates and their patterns, or 0 and the refusal.
@@ -90,7 +72,7 @@ fn answered(q: Query, lent: usize, answer: &[u32], n: usize) -> bool {
         return refused & (n == 2) & (answer[1] != 0);
     }
     let given = gives(q, lent, &answer[1..n], 0);
-    given & (n - 1 == wide(answer[0]))
+    given & (n - 1 == answer[0] as usize)
 }
 
 // Whether the floats of the input, with so many places lent, have this answer.
@@ -100,6 +82,12 @@ pub(crate) fn agrees(input: &[u8], lent: usize, answer: &[u8]) -> bool {
     let mut wanted = [0u32; 8201];
     let told = numbers::read_numbers(answer, &mut wanted);
     let n = count_of(told);
-    let same = answered(query_of(&patterns), lent, &wanted, n);
+    let q = Query {
+        start: from_bits(patterns[0]),
+        min: from_bits(patterns[1]),
+        max: from_bits(patterns[2]),
+        step: from_bits(patterns[3]),
+    };
+    let same = answered(q, lent, &wanted, n);
     same & (count_of(given) == 4)
 }

@@ -3,6 +3,7 @@ use denote.Ref.{now}
 use Prim.Native.Nat.{_≤_, _-_, min}
 use native.Mathlib.Omega.{arith}
 use mathlib.Core.Path.{_≡_, _∙_}
+use mathlib.Core.Logic.{⊎-elim}
 use borrow.Author.Needs.{needs}
 use Rattle.lists.specs.Fold.{foldTo}
 use Rattle.lists.proofs.Fold.{fold-none, fold-turn, fold-done}
@@ -19,11 +20,8 @@ Inv-loop least xs ys x y n acc₀ k₀ acc k = (k ≤ n) × (acc ≡ foldTo k (n
 abbrev μ-loop : tie.MeasureT-loop
 μ-loop least xs ys x y n acc₀ k₀ acc k = n - k
 
-lesser-requires : tie.Need-lesser-requires Inv-loop μ-loop
-lesser-requires c κs = search needs
-
 loop-holds : tie.Need-loop-holds Inv-loop μ-loop
-loop-holds c = (omega arith, fold-none _ _, c .lesser .ensures)
+loop-holds c = (omega arith, fold-none _ _, ⊎-elim (λ w. omega arith) (λ w. omega arith) (c .if1 .came))
 
 mul-nearer : tie.Need-mul-nearer Inv-loop μ-loop
 mul-nearer c = search needs
@@ -65,7 +63,6 @@ near-places-spec =
     (tie.spec
     Inv-loop
     μ-loop
-    lesser-requires
     loop-holds
     mul-nearer
     shared-slice-read-nearer

@@ -4,10 +4,13 @@ use mathlib.Core.Path.{_≡_, ap₂, _∙_}
 use mathlib.Core.Bool.{Bool, _&&_}
 use mathlib.Core.List.{List}
 use Prim.Native.Nat.{ℕ}
+use lib.Dec.{eqb, leb}
+use lib.ListN.{length}
 use lib.Ieee.{Float}
 use Rattle.lists.specs.Refusals.{firstRefusal}
 use Rattle.game.specs.declared.Situation.{Situation}
-use Rattle.refusals.specs.Refusals.{conditionsOf, fieldFits, posesFit, isCoordinate, numberFits, restartFits, wishFits, numbersFit, distanceFits, five, refusalOf}
+use Rattle.game.specs.declared.Team.{Team}
+use Rattle.refusals.specs.Refusals.{conditionsOf, fieldFits, teamFits, placesFit, listsFit, posesFit, isCoordinate, numberFits, restartFits, wishFits, numbersFit, distanceFits, five, refusalOf}
 use Rattle.refusals.proofs.refusal.Statement.{statement}
 use Rattle.refusals.proofs.refusal.Tie as tie
 
@@ -25,11 +28,25 @@ told s xs ys a b x y z h w k l r ea eb ex ey ez eh ew ek el e =
     ∙ ap₂ (λ (u v : Bool). firstRefusal (five (fieldFits (s .field)) (posesFit (s .home) (s .away) xs ys) u v (distanceFits (s .«penalty_placement_distance»))))
     (and-both (and-both ex ey) ez) (and-both (and-both (and-both eh ew) ek) el)
 
+poses : (home away : Team) (xs ys : List Float) (h w p q : Bool) → h ≡ teamFits home → w ≡ teamFits away → p ≡ placesFit xs → q ≡ placesFit ys
+    → (h && w && (eqb (length xs) (length ys) && leb (length xs) 4096 && p && q)) ≡ posesFit home away xs ys
+unfolding posesFit listsFit
+poses home away xs ys h w p q eh ew ep eq = simp (eh, ew, ep, eq)
+
 field-fits-requires : tie.Need-field-fits-requires
 field-fits-requires c κs = search needs
 
-poses-fit-requires : tie.Need-poses-fit-requires
-poses-fit-requires c κs = search needs
+team-fits-requires : tie.Need-team-fits-requires
+team-fits-requires c κs = search needs
+
+team-fits-requires-2 : tie.Need-team-fits-requires-2
+team-fits-requires-2 c κs = search needs
+
+places-fit-requires : tie.Need-places-fit-requires
+places-fit-requires c κs = search needs
+
+places-fit-requires-2 : tie.Need-places-fit-requires-2
+places-fit-requires-2 c κs = search needs
 
 is-coordinate-requires : tie.Need-is-coordinate-requires
 is-coordinate-requires c κs = search needs
@@ -63,8 +80,11 @@ returns c =
     let at-is-coordinate3 = at-number-fits .before in
     let at-is-coordinate2 = at-is-coordinate3 .before in
     let at-is-coordinate = at-is-coordinate2 .before in
-    let at-poses-fit = at-is-coordinate .before in
-    told _ _ _ _ _ _ _ _ _ _ _ _ _ (at-poses-fit .before .field-fits .ensures) (at-poses-fit .poses-fit .ensures) (at-is-coordinate .is-coordinate .ensures) (at-is-coordinate2 .is-coordinate2 .ensures) (at-is-coordinate3 .is-coordinate3 .ensures) (at-number-fits .number-fits .ensures) (at-number-fits2 .number-fits2 .ensures) (at-restart-fits .restart-fits .ensures) (c .before .wish-fits .ensures) (c .first-failing .ensures)
+    let at-places-fit2 = at-is-coordinate .before in
+    let at-places-fit = at-places-fit2 .before in
+    let at-team-fits2 = at-places-fit .before in
+    let at-team-fits = at-team-fits2 .before in
+    told _ _ _ _ _ _ _ _ _ _ _ _ _ (at-team-fits .before .field-fits .ensures) (poses _ _ _ _ _ _ _ _ (at-team-fits .team-fits .ensures) (at-team-fits2 .team-fits2 .ensures) (at-places-fit .places-fit .ensures) (at-places-fit2 .places-fit2 .ensures)) (at-is-coordinate .is-coordinate .ensures) (at-is-coordinate2 .is-coordinate2 .ensures) (at-is-coordinate3 .is-coordinate3 .ensures) (at-number-fits .number-fits .ensures) (at-number-fits2 .number-fits2 .ensures) (at-restart-fits .restart-fits .ensures) (c .before .wish-fits .ensures) (c .first-failing .ensures)
 
 pub refusal-spec : {M : Type 1} → statement M
-refusal-spec = tie.close (tie.spec field-fits-requires poses-fit-requires is-coordinate-requires is-coordinate-requires-2 is-coordinate-requires-3 number-fits-requires number-fits-requires-2 restart-fits-requires wish-fits-requires first-failing-requires returns)
+refusal-spec = tie.close (tie.spec field-fits-requires team-fits-requires team-fits-requires-2 places-fit-requires places-fit-requires-2 is-coordinate-requires is-coordinate-requires-2 is-coordinate-requires-3 number-fits-requires number-fits-requires-2 restart-fits-requires wish-fits-requires first-failing-requires returns)

@@ -4,11 +4,11 @@ use borrow.Author.Needs.{needs}
 use Rattle.decision.proofs.call.decision_of.Statement.{statement}
 use Rattle.decision.proofs.call.decision_of.Tie as tie
 
-side-margins-requires : tie.Need-side-margins-requires
-side-margins-requires c κs = search needs
+side-seen-requires : tie.Need-side-seen-requires
+side-seen-requires c κs = search needs
 
-side-margins-requires-2 : tie.Need-side-margins-requires-2
-side-margins-requires-2 c κs = search needs
+side-seen-requires-2 : tie.Need-side-seen-requires-2
+side-seen-requires-2 c κs = search needs
 
 team-decision-requires : tie.Need-team-decision-requires
 team-decision-requires c κs = search needs
@@ -31,16 +31,16 @@ returns c =
     let kicker = ball .before in
     let away = kicker .before in
     let home = away .before in
-    let away-margins = home .before in
-    let home-margins = away-margins .before in
-    decision-told _ _ _ _ _ _ _ _ _ _ (home-margins .side-margins .ensures) (away-margins .side-margins2 .ensures) (home .team-decision .ensures) (away .team-decision2 .ensures) (kicker .kicking-player .ensures) (ball .ball-judgment .ensures) (c .wished-place .ensures)
+    let away-seen = home .before .before .before in
+    let home-seen = away-seen .before in
+    decision-told _ _ _ _ _ _ _ _ _ _ _ _ (home-seen .side-seen .ensures .0) (away-seen .side-seen2 .ensures .0) (home-seen .side-seen .ensures .1) (away-seen .side-seen2 .ensures .1) (home .team-decision .ensures) (away .team-decision2 .ensures) (kicker .kicking-player .ensures) (ball .ball-judgment .ensures) (c .wished-place .ensures)
 
 pub decision-of-spec : {M : Type 1} → statement M
 decision-of-spec =
     tie.close
     (tie.spec
-    side-margins-requires
-    side-margins-requires-2
+    side-seen-requires
+    side-seen-requires-2
     team-decision-requires
     team-decision-requires-2
     kicking-player-requires
