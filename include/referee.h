@@ -1,7 +1,18 @@
 /* The entries of libreferee_c.a (`rt staticlib referee_c`). Contracts: crates/referee_c/src/lib.rt.
  *
- * A slice is a pointer and then the number of its elements. The pointer of an empty slice is not null but aligned for its element. Memory that is written
- * to may not overlap what the same call reads.
+ * Units and axes. Lengths are metres, angles radians. The origin is the centre mark, x points to the left goal as the GameController shows it, z up, and y completes a
+ * right-handed system. With REFEREE_SIDE_MAPPING_HOME_DEFENDS_LEFT_GOAL Home's own goal is at positive x.
+ *
+ * Slices. A slice is a pointer and then the number of its elements. The pointer of an empty slice is not null but aligned for its element: any array of that type does, with the
+ * length 0. Memory that is written to may not overlap what the same call reads.
+ *
+ * Float mode. What the entries answer is said of IEEE 754's default mode: rounding to nearest, subnormal numbers kept. A program that calls fesetround, sets flush-to-zero or
+ * denormals-are-zero, or is linked with -ffast-math, runs in another. There the entries that compute with floats and answer an int64_t answer REFEREE_OTHER_FLOAT_MODE before anything else
+ * and keep every byte; referee_check computes with none. The three entries that answer a float (referee_hypot, referee_normalize_angle, referee_rem_euclid) have no answer for it: they
+ * want the default mode and do not look.
+ *
+ * Threads and stack. No entry has state of its own, so that threads may call them at the same time, each with its own memory to write to. A call takes no heap and less than
+ * 30 kB of stack (docs/BENCHMARKS.md has what was measured).
  */
 #ifndef REFEREE_H
 #define REFEREE_H
@@ -22,14 +33,22 @@ extern "C" {
 /* No list of candidates has more places than this. */
 #define REFEREE_CANDIDATES 8200
 
+/* Answers below 0 beside the refusals, which are -1 to -7: the words are no situation; the processor's float mode is not the default. */
+#define REFEREE_MALFORMED (-100)
+#define REFEREE_OTHER_FLOAT_MODE (-101)
+
+/* Whether the words are a situation. Answers 0 where they are; n from 1 where words[n - 1] is the first that is none of its column's values; REFEREE_MALFORMED for
+ * another number of words than REFEREE_WORDS. */
+int64_t referee_check(const uint32_t *words, size_t words_len);
+
 /* Decides on the situation that the words are, with the earlier places xs and ys of the batch, and writes its sheet at the front of the lent bytes; the bytes
- * after it are kept. Answers the number of bytes written, or -n for the refusal n (1 to 5, then 7), or -100 for words that are no situation; in both cases
+ * after it are kept. Answers the number of bytes written, or -n for the refusal n (1 to 5, then 7), or REFEREE_MALFORMED, or REFEREE_OTHER_FLOAT_MODE; where the answer is below 0
  * nothing is written. */
 int64_t referee_sheet(const uint32_t *words, size_t words_len, const float *xs, size_t xs_len, const float *ys, size_t ys_len, uint8_t *sheet,
                       size_t sheet_len);
 
 /* Fills the front of the lent list with the candidates for a penalised player's place and keeps the rest. Answers how many there are, or -n for the refusal n
- * (5 or 6), when nothing is written. */
+ * (5 or 6), or REFEREE_OTHER_FLOAT_MODE; where the answer is below 0 nothing is written. */
 int64_t referee_candidates(float start, float min, float max, float step, float *list, size_t list_len);
 
 /* The f32 nearest to the exact root of x^2 + y^2, ties to even. */

@@ -44,8 +44,8 @@ int main(void) {
     static const float none[1];
     uint8_t sheet[REFEREE_SHEET_BYTES];
     int64_t n = referee_sheet(words, REFEREE_WORDS, none, 0, none, 0, sheet, sizeof sheet);
-    if (n < 0) {
-        printf("refused %d\n", (int)-n);
+    if (n < 0) { /* a refusal, REFEREE_MALFORMED or REFEREE_OTHER_FLOAT_MODE */
+        fprintf(stderr, "no sheet: %d\n", (int)n);
         return 1;
     }
     fwrite(sheet, 1, (size_t)n, stdout);

@@ -134,7 +134,8 @@ ABOVE_64, ABOVE_1, ABOVE_0 = 0x4280_0001, 0x3F80_0001, 0x0000_0001
 
 # ---- records ----
 
-JUDGE = 1  # the kind of a record whose input the program `judge` reads
+TELLS = 1  # the kind of a record whose input the program `judge` reads, and whose answer is told: a refusal, or what is wrong
+ANSWERS = 2  # the same, and the answer is a sheet
 WRITE_SHEET = 10  # the kind of a record of the library's entry that no refusal is expected of; the refusal n makes it 10 + n
 MOST = 512  # bytes that are lent where a case says nothing else
 
@@ -347,77 +348,172 @@ def several():
     ]
 
 
-# ---- inputs of `judge` that are no situation, or one that is refused ----
+# ---- inputs of `judge` that are no situation, or one that is refused; and case A as it reads it ----
 
-NOT_DECIMAL = "not a decimal number"
+NOT_A_NUMBER = "not a number from 0 to 4294967295; a float is written as its bit pattern"
 TOO_LARGE = "greater than 4294967295"
-OUTSIDE = "none of its column's values"
 MISSING = "missing"
-LONG_LIST = "a list of more than 4097"
 EXTRA = "more than the situation has"
 
-# how many zeros, each with a blank after it, then what follows; the number that is wrong, and how
-BROKEN = [
-    # nothing, and nothing but separators
-    (0, "", 1, MISSING),
-    (0, " \n \n", 1, MISSING),
-    # a letter, a sign, a point, a comma, a tab, a carriage return
-    (0, "x", 1, NOT_DECIMAL),
-    (2, "-1", 3, NOT_DECIMAL),
-    (2, "14.0", 3, NOT_DECIMAL),
-    (3, "1,2", 4, NOT_DECIMAL),
-    (3, "1\t2", 4, NOT_DECIMAL),
-    (4, "1\r\n2", 5, NOT_DECIMAL),
-    # the greatest number, one more, and one of many digits
-    (0, "4294967295", 2, MISSING),
-    (0, "4294967296", 1, TOO_LARGE),
-    (9, "99999999999999999999999999", 10, TOO_LARGE),
-    # a number that is too large after one that is none, and the other way round
-    (0, "1x 4294967296", 1, NOT_DECIMAL),
-    (0, "4294967296 1x", 1, TOO_LARGE),
-    # words that are none of their column's values: sides 2, and the last word 256
-    (15, "2", 16, OUTSIDE),
-    (562, "256 0 0", 563, OUTSIDE),
-    # a word outside its column goes before a number that is missing, and after one that is no number
-    (15, "2 3 4", 16, OUTSIDE),
-    (15, "2 y", 17, NOT_DECIMAL),
-    # no lists, half a list, no second list
-    (563, "", 564, MISSING),
-    (563, "3 0 0", 567, MISSING),
-    (563, "0", 565, MISSING),
-    (563, "1 0", 566, MISSING),
-    (563, "0 2 5", 567, MISSING),
-    # lists of more than 4,097, of x and of y
-    (563, "4098", 564, LONG_LIST),
-    (563, "0 4098", 565, LONG_LIST),
-    (563, "2 1 1 4294967295", 567, LONG_LIST),
-    # a number too many
-    (563, "0 0 7", 566, EXTRA),
-    (563, "1 0 1 0 8 9", 568, EXTRA),
+
+def none_of_its_values(value):
+    """What is said of a word outside its column."""
+    return f"{value} is none of its values"
+
+
+def long_list(value):
+    """What is said of the number of a list."""
+    return f"{value} is more than 4097"
+
+
+# Each has how many zeros, with a blank after each, then what follows; where something is wrong, and what. 0 is one of the values of every column.
+
+# what is no number, or too large, or missing, at a word of nobody's
+PLAIN = [
+    (0, "", "word 0 (field length)", MISSING),
+    (0, " \n\t\r\n", "word 0 (field length)", MISSING),
+    (0, "x", "word 0 (field length)", NOT_A_NUMBER),
+    (2, "-1", "word 2 (goal width)", NOT_A_NUMBER),
+    (0, "14.0", "word 0 (field length)", NOT_A_NUMBER),
+    (3, "0x41600000", "word 3 (goal height)", NOT_A_NUMBER),
+    (3, "1,2", "word 3 (goal height)", NOT_A_NUMBER),
+    (6, "1\v2", "word 6 (penalty area length)", NOT_A_NUMBER),
+    (7, "1\f2", "word 7 (penalty area width)", NOT_A_NUMBER),
+    (543, "y", "word 543 (ball x)", NOT_A_NUMBER),
+    (545, "", "word 545 (ball z)", MISSING),
+    (553, "1e3", "word 553 (kick position y)", NOT_A_NUMBER),
+    (0, "4294967295", "word 1 (field width)", MISSING),
+    (0, "4294967296", "word 0 (field length)", TOO_LARGE),
+    (9, "99999999999999999999999999", "word 9 (center circle radius)", TOO_LARGE),
+    (0, "1x 4294967296", "word 0 (field length)", NOT_A_NUMBER),
+    (0, "4294967296 1x", "word 0 (field length)", TOO_LARGE),
+    # a tab, a carriage return and both of a line's end separate: the third and the fourth number are the faults
+    (13, "1\t2\t2", "word 15 (sides)", none_of_its_values(2)),
+    (12, "1\r2\r\n3\r\nx", "word 15 (sides)", NOT_A_NUMBER),
 ]
 
-# nothing is wrong with the input; its sizes are refused. Leading zeros and any blanks between numbers do not matter
-ZEROS = [(565, ""), (563, "  000\n\n 0\n")]
+# words outside their columns, and the greatest values, after which the next is missing
+COLUMNS = [
+    (15, "2", "word 15 (sides)", none_of_its_values(2)),
+    (15, "1", "word 16 (stopped)", MISSING),
+    (17, "5", "word 17 (phase)", none_of_its_values(5)),
+    (19, "8", "word 19 (set play)", none_of_its_values(8)),
+    (19, "7 2", "word 21 (Home goalkeeper)", MISSING),
+    (20, "3", "word 20 (kicking side)", none_of_its_values(3)),
+    (21, "257", "word 21 (Home goalkeeper)", none_of_its_values(257)),
+    (22, "257", "word 22 (Away goalkeeper)", none_of_its_values(257)),
+    (21, "256 256", "word 23 (Home 1 penalty)", MISSING),
+    (547, "2", "word 547 (restart)", none_of_its_values(2)),
+    (548, "4", "word 548 (restart kind)", none_of_its_values(4)),
+    (555, "2", "word 555 (kicker touched outside center circle)", none_of_its_values(2)),
+    (562, "256 0 0", "word 562 (wished player)", none_of_its_values(256)),
+    (562, "4294967295 0 0", "word 562 (wished player)", none_of_its_values(4294967295)),
+    (562, "255", "number of earlier x", MISSING),
+    # a word outside its column goes before what is missing or too much, and after what is no number
+    (15, "2 3 4", "word 15 (sides)", none_of_its_values(2)),
+    (15, "2 y", "word 16 (stopped)", NOT_A_NUMBER),
+    (15, "2 4294967296", "word 16 (stopped)", TOO_LARGE),
+    (562, "256 5000", "word 562 (wished player)", none_of_its_values(256)),
+    (562, "256 0 0 7", "word 562 (wished player)", none_of_its_values(256)),
+]
+
+# the words of players: 5 of a pose from 63 on, 5 of a reference pose from 263 on
+PLAYERS = [
+    (23, "14", "word 23 (Home 1 penalty)", none_of_its_values(14)),
+    (23, "13", "word 24 (Home 2 penalty)", MISSING),
+    (43, "14", "word 43 (Away 1 penalty)", none_of_its_values(14)),
+    (62, "-", "word 62 (Away 20 penalty)", NOT_A_NUMBER),
+    (63, "2", "word 63 (Home 1 present)", none_of_its_values(2)),
+    (64, "-1", "word 64 (Home 1 x)", NOT_A_NUMBER),
+    (66, "", "word 66 (Home 1 theta)", MISSING),
+    (67, "4294967296", "word 67 (Home 1 radius)", TOO_LARGE),
+    (68, "2", "word 68 (Home 2 present)", none_of_its_values(2)),
+    (162, "x", "word 162 (Home 20 radius)", NOT_A_NUMBER),
+    (163, "2", "word 163 (Away 1 present)", none_of_its_values(2)),
+    (165, "", "word 165 (Away 1 y)", MISSING),
+    (262, "4294967296", "word 262 (Away 20 radius)", TOO_LARGE),
+    (263, "2", "word 263 (Home 1 reference present)", none_of_its_values(2)),
+    (264, "1.5", "word 264 (Home 1 reference x)", NOT_A_NUMBER),
+    (363, "2", "word 363 (Away 1 reference present)", none_of_its_values(2)),
+    (366, "4294967296", "word 366 (Away 1 reference theta)", TOO_LARGE),
+    (462, "", "word 462 (Away 20 reference radius)", MISSING),
+    (463, "x", "word 463 (Home 1 allowance)", NOT_A_NUMBER),
+    (502, "4294967296", "word 502 (Away 20 allowance)", TOO_LARGE),
+    (503, "2", "word 503 (Home 1 previously inside)", none_of_its_values(2)),
+    (542, "2", "word 542 (Away 20 previously inside)", none_of_its_values(2)),
+]
+
+# past the words: the two lists, and what comes after them
+LISTS = [
+    (563, "", "number of earlier x", MISSING),
+    (563, "1.0", "number of earlier x", NOT_A_NUMBER),
+    (563, "4294967296", "number of earlier x", TOO_LARGE),
+    (563, "4097", "earlier x 1", MISSING),
+    (563, "4098", "number of earlier x", long_list(4098)),
+    (563, "5000 1 2", "number of earlier x", long_list(5000)),
+    (563, "3 0 0", "earlier x 3", MISSING),
+    (563, "3 0 x", "earlier x 2", NOT_A_NUMBER),
+    (563, "2 4294967296", "earlier x 1", TOO_LARGE),
+    (563, "5000 1 x", "earlier x 2", NOT_A_NUMBER),
+    (563, "4294967295 1 2 3 -4", "earlier x 4", NOT_A_NUMBER),
+    (563, "0", "number of earlier y", MISSING),
+    (563, "1 0", "number of earlier y", MISSING),
+    (563, "1 0 -1", "number of earlier y", NOT_A_NUMBER),
+    (563, "1 0 4294967296", "number of earlier y", TOO_LARGE),
+    (563, "0 4097", "earlier y 1", MISSING),
+    (563, "0 4098", "number of earlier y", long_list(4098)),
+    (563, "2 1 1 4294967295", "number of earlier y", long_list(4294967295)),
+    (563, "0 2 5", "earlier y 2", MISSING),
+    (563, "1 0 2 5 z", "earlier y 2", NOT_A_NUMBER),
+    (563, "0 1 99999999999", "earlier y 1", TOO_LARGE),
+    (563, "0 0 7", "earlier y 1", EXTRA),
+    (563, "1 0 1 0 8 9", "earlier y 2", EXTRA),
+    (563, "0 3 1 2 3 4", "earlier y 4", EXTRA),
+    (563, "0 0 7 x", "earlier y 2", NOT_A_NUMBER),
+]
+
+# nothing is wrong with the input; its sizes are refused. Leading zeros and any separators between numbers do not matter
+ZEROS = [(565, ""), (563, "  000\n\n 0\n"), (563, "\t0\r\n\r0\t\n"), (563, "1 0 1 0"), (562, "255 1 4294967295 1 0")]
 
 LONGEST = 7470  # bytes that `judge` lends: the longest sheet, 166 lines of 45
 
 
+def input_text(zeros, after):
+    """A text that begins with so many zeros."""
+    return "0 " * zeros + after
+
+
 def inputs():
-    """A record for each input: 0 is one of the values of every column."""
+    """A record for each input that is no situation, and for each that is refused."""
     out = []
-    for zeros, after, number, what in BROKEN:
-        name = f"{zeros} zeros and {after!r}"
-        out.append((name, record(JUDGE, LONGEST, "0 " * zeros + after, f"number {number}: {what}\n")))
+    for zeros, after, where, what in PLAIN + COLUMNS + PLAYERS + LISTS:
+        out.append((f"{zeros} zeros and {after!r}", record(TELLS, LONGEST, input_text(zeros, after), f"{where}: {what}\n")))
     for zeros, after in ZEROS:
-        out.append((f"{zeros} zeros and {after!r}", record(JUDGE, LONGEST, "0 " * zeros + after, "refused 1\n")))
+        out.append((f"{zeros} zeros and {after!r}", record(TELLS, LONGEST, input_text(zeros, after), "refused 1\n")))
     return out
+
+
+def sheets_of_a():
+    """Case A as `judge` reads it, with each separator: the sheet is an answer. A refusal is none, nor is anything where the lent bytes are too few for it: 135 for the
+    sheet of A, 10 for the line of a refusal."""
+    numbers = [*map(str, A), "0", "0"]
+    blanks = " ".join(numbers)
+    return [
+        *((f"A for judge, separated by {by!r}", record(ANSWERS, LONGEST, by.join(numbers) + by, TEXT_OF_A)) for by in (" ", "\n", "\t", "\r\n", "\r")),
+        ("A for judge, 135 bytes", record(ANSWERS, 135, blanks, TEXT_OF_A)),
+        ("A for judge, 134 bytes", record(TELLS, 134, blanks, "refused 7\n")),
+        ("A for judge, 10 bytes", record(TELLS, 10, blanks, "refused 7\n")),
+        ("A for judge, 9 bytes", record(TELLS, 9, blanks, "")),
+        ("a fault, 41 bytes", record(TELLS, 41, input_text(15, "2"), "word 15 (sides): 2 is none of its values\n")),
+        ("a fault, 40 bytes", record(TELLS, 40, input_text(15, "2"), "")),
+    ]
 
 
 def main():
     """Writes the files, compares them, or prints the names."""
     assert len(A) == layout.WORDS and set(CASE_A) <= set(AT), len(A)
     cases = whole() + in_set() + goal_line() + touchline() + placements() + kick_off()
-    cases += refusals() + several() + inputs()
+    cases += refusals() + several() + inputs() + sheets_of_a()
     if sys.argv[1:] == ["--list"]:
         for number, (name, _) in enumerate(cases, 1):
             print(f"{number}: {name}")

@@ -13,23 +13,23 @@ use Rattle.lists.specs.Refusals.{firstRefusal, allNumbered}
 use Rattle.lists.proofs.Refusals.{refusal-append}
 use Rattle.game.specs.declared.Decision.{Decision}
 use Rattle.game.specs.declared.Situation.{Situation}
-use Rattle.refusals.specs.Refusals.{conditionsOf, refusalOf}
+use Rattle.refusals.specs.Refusals.{requirementsOf, refusalOf}
 use Rattle.decision.specs.Decision.{decisionOf}
 use Rattle.sheet.specs.Sheet.{bytesIn, answered, textOf, roomFor, decisionAnswer, decisionSheet}
 use Rattle.sheet.specs.declared.text.SheetAnswer.{SheetAnswer}
 use Rattle.sheet.specs.declared.text.SheetAnswer.the-variants.{Refused, Written}
 use Rattle.sheet.proofs.Answers.{answer-tested, room-fronted, decision-room}
-use Rattle.call.specs.Call.{callConditions, sheetAnswer, sheetAfter}
+use Rattle.call.specs.Call.{callRequirements, sheetAnswer, sheetAfter}
 
 module _ (s : Situation) (xs ys : List Float) where
-  numbered : allNumbered (conditionsOf s xs ys) ≡ true
-  unfolding conditionsOf
+  numbered : allNumbered (requirementsOf s xs ys) ≡ true
+  unfolding requirementsOf
   numbered = refl
 
   first-refusal : (lent : ℕ)
-      → firstRefusal (callConditions s xs ys lent) ≡ cond (eqb (refusalOf s xs ys) 0) (firstRefusal (roomFor (decisionOf s xs ys) lent ∷ [])) (refusalOf s xs ys)
+      → firstRefusal (callRequirements s xs ys lent) ≡ cond (eqb (refusalOf s xs ys) 0) (firstRefusal (roomFor (decisionOf s xs ys) lent ∷ [])) (refusalOf s xs ys)
   unfolding refusalOf
-  first-refusal lent = refusal-append (conditionsOf s xs ys) (roomFor (decisionOf s xs ys) lent ∷ []) numbered
+  first-refusal lent = refusal-append (requirementsOf s xs ys) (roomFor (decisionOf s xs ys) lent ∷ []) numbered
 
   -- the answer, by whether the situation itself is refused
   pub answer-told : (lent : ℕ) → sheetAnswer s xs ys lent ≡ cond (eqb (refusalOf s xs ys) 0) (decisionAnswer (decisionOf s xs ys) lent) (Refused (refusalOf s xs ys))

@@ -18,7 +18,7 @@ use Rattle.spacing.specs.Spacing.{placesAt}
 use Rattle.tries.specs.Tries.{candidatesOf, unfit, firstCandidate, turnsOf, walked}
 use Rattle.tries.proofs.CandidatesList.{Held, candidates-walked}
 use Rattle.tries.proofs.CandidatesEnd.{some-candidate, few-candidates}
-use Rattle.candidates.specs.Candidates.{tooLong, conditions, refusalOf, answerOf}
+use Rattle.candidates.specs.Candidates.{tooLong, requirements, refusalOf, answerOf}
 
 -- ---- the answer, for any floats
 -- what is not refused is given
@@ -44,12 +44,12 @@ empty-means-refused start min max step len e z = some-candidate start min max st
 -- unfit floats
 pub refused-5 : (start min max step : Float) (len : ℕ) → unfit start min max step ≡ true → refusalOf start min max step len ≡ 5
 unfolding refusalOf
-refused-5 start min max step len u = ap (λ (b : Bool). firstRefusal (conditions b (tooLong start min max step len))) u
+refused-5 start min max step len u = ap (λ (b : Bool). firstRefusal (requirements b (tooLong start min max step len))) u
 
 -- else by the length
-by-length : (start min max step : Float) (len : ℕ) (b : Bool) → unfit start min max step ≡ false → tooLong start min max step len ≡ b → refusalOf start min max step len ≡ firstRefusal (conditions false b)
+by-length : (start min max step : Float) (len : ℕ) (b : Bool) → unfit start min max step ≡ false → tooLong start min max step len ≡ b → refusalOf start min max step len ≡ firstRefusal (requirements false b)
 unfolding refusalOf
-by-length start min max step len b u e = ap₂ (λ (a l : Bool). firstRefusal (conditions a l)) u e
+by-length start min max step len b u e = ap₂ (λ (a l : Bool). firstRefusal (requirements a l)) u e
 
 -- ---- each float fits binary32, as every f32 does
 module _ (start min max step : Float) (f : Held start min max step) where

@@ -11,7 +11,7 @@ use records::Record;
 use std::num::wrapping_add_u64;
 
 // Room for the list.
-const ROOM: usize = 131072;
+const ROOM: usize = 262144;
 
 // More records than the list has.
 const MOST: u32 = 10000;
@@ -34,7 +34,7 @@ fn agrees(list: &[u8], r: Record) -> bool
     let answer = &list[middle..end];
     let kind = r.kind;
     match kind {
-        1 => sheets::judged(input, r.lent, answer),
+        1..=2 => sheets::judged(kind, input, r.lent, answer),
         10..=17 => sheets::called(input, r.lent, kind - 10, answer),
         _ => false,
     }

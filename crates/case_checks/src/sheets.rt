@@ -1,5 +1,6 @@
-// The two kinds of records: a text that the program `judge` reads, and words for the library's entry.
+// What records have: a text that the program `judge` reads, or words for the library's entry.
 ghost use Prim.Native.Nat.{_≤_};
+use desk::Reply;
 use numbers::Reading;
 use sheet::SheetAnswer;
 
@@ -12,15 +13,18 @@ const MOST: usize = 7680;
 // The numbers of an input: 563 words, how many earlier x and y there are, and the pattern of each of these.
 const NUMBERS: usize = 566;
 
-// Whether the input, with so many bytes lent, has this answer, and all other bytes are kept.
-pub(crate) fn judged(input: &[u8], lent: usize, answer: &[u8]) -> bool {
+// Whether this is told for the input, with so many bytes lent, where the kind is 1, or answered where it is 2, and all other bytes are kept.
+pub(crate) fn judged(kind: u32, input: &[u8], lent: usize, answer: &[u8]) -> bool {
     if MOST < lent {
         return false;
     }
     let mut bytes = [FILL; MOST];
-    let n = desk::judge(input, &mut bytes[..lent]);
+    let reply = desk::judge(input, &mut bytes[..lent]);
     let kept = records::holds(&bytes, answer, FILL);
-    kept & (n == answer.len())
+    match reply {
+        Reply::Answer(n) => kept & (n == answer.len()) & (kind == 2),
+        Reply::Told(n) => kept & (n == answer.len()) & (kind == 1),
+    }
 }
 
 // How many places there are, which is at most 4,097.

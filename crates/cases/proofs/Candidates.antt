@@ -13,18 +13,18 @@ use Rattle.floats.specs.Arithmetic.{zero32}
 use Rattle.lists.specs.Refusals.{firstRefusal}
 use Rattle.tries.specs.Tries.{crossed, candidatesTo, candidatesOf, unfit}
 use Rattle.tries.proofs.CandidatesEnd.{break-is-the-end}
-use Rattle.candidates.specs.Candidates.{conditions, refusalOf, answerOf}
+use Rattle.candidates.specs.Candidates.{requirements, refusalOf, answerOf}
 use Rattle.cases.specs.Field.{_over_}
 use Rattle.cases.specs.Candidates.{start, least, greatest, CandidateCases}
 use Rattle.cases.proofs.Opened.{floats}
 
 -- the refusal and the answer where the list l is known and refusal 5 does not apply
 module _ (start min max step : Float) (lent : ℕ) (l : List Float) (known : candidatesOf start min max step ≡ l) (fit : unfit start min max step ≡ false) where
-  known-refusal : refusalOf start min max step lent ≡ firstRefusal (conditions false (ltb lent (length l)))
+  known-refusal : refusalOf start min max step lent ≡ firstRefusal (requirements false (ltb lent (length l)))
   unfolding refusalOf
-  known-refusal = ap₂ (λ (b : Bool) (m : List Float). firstRefusal (conditions b (ltb lent (length m)))) fit known
+  known-refusal = ap₂ (λ (b : Bool) (m : List Float). firstRefusal (requirements b (ltb lent (length m)))) fit known
 
-  known-answer : answerOf start min max step lent ≡ cond (eqb (firstRefusal (conditions false (ltb lent (length l)))) 0) l []
+  known-answer : answerOf start min max step lent ≡ cond (eqb (firstRefusal (requirements false (ltb lent (length l)))) 0) l []
   unfolding answerOf
   known-answer = ap₂ (λ (r : ℕ) (m : List Float). cond (eqb r 0) m []) known-refusal known
 

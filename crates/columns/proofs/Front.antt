@@ -2,15 +2,19 @@
 use mathlib.Core.Path.{_≡_, refl, sym, ap, _∙_}
 use mathlib.Core.Bool.{Bool, true, false, _&&_, cond, true≢false}
 use mathlib.Core.Logic.{_⊎_, inl, inr}
-use Prim.Native.Nat.{ℕ, zero, suc, _+_, _≤_, _<_}
+use mathlib.Core.List.{List}
+use Prim.Native.Nat.{ℕ, zero, suc, _+_, _≤_, _<_, min}
 use native.Mathlib.Nat.{le-antisymm, le-refl, eq-or-lt-of-le, not-suc-le-zero}
 use native.Mathlib.Omega.{arith}
 use lib.Dec.{eqb, ltb}
+use lib.ListN.{length}
 use borrow.Author.Tests.{eq-eqb, eqb-true, ltb-true, ltb-false}
 use Rattle.lists.specs.Every.{everyTo}
 use Rattle.lists.proofs.Every.{every-at}
 use Rattle.lists.proofs.Bools.{both-true}
-use Rattle.columns.specs.Columns.{grown, frontTo}
+use Rattle.columns.specs.Layout.{wordCount, columns}
+use Rattle.columns.specs.Columns.{inColumn, grown, frontTo, frontWithin, wordsWithin}
+use Rattle.columns.proofs.Laid.{columns-count}
 
 -- what a turn makes of a count that is at most n: all of n and one more, or as it was
 data Turn (k n : ℕ) (b : Bool) : ℕ → Type 0 where
@@ -81,3 +85,8 @@ front-here n P i h e f = go (ltb i (frontTo n P)) refl (ltb (frontTo n P) i) ref
     go true ea b eb = absurd (true≢false (sym (front-holds n P i (ltb-true i (frontTo n P) ea)) ∙ f))
     go false ea true eb = let low = ltb-true (frontTo n P) i eb in absurd (true≢false (sym (every-at i P e (frontTo n P) low) ∙ front-stops n P (omega arith)))
     go false ea false eb = le-antisymm (ltb-false (frontTo n P) i eb) (ltb-false i (frontTo n P) ea)
+
+-- no more words are within than a situation has
+pub most-within : (ws : List ℕ) → wordsWithin ws ≤ wordCount
+unfolding frontWithin wordsWithin
+most-within ws = let most = front-le (min (length ws) (length columns)) (inColumn columns ws) in omega (arith, most, columns-count)

@@ -25,7 +25,7 @@ use Rattle.geometry.proofs.Turned.{numbered-changed}
 use Rattle.places.proofs.Turned.{ball-at-restart-changed, ball-in-set-changed, penalty-shot-changed, penalty-goalkeeper-changed, heading-changed}
 use Rattle.penalty.proofs.Sizes as Sizes
 use Rattle.penalty.proofs.Turned.{sized-place-changed}
-use Rattle.refusals.specs.Refusals.{fieldFits, numbersFit, wishFits, distanceFits, five, conditionsOf, refusalOf}
+use Rattle.refusals.specs.Refusals.{fieldFits, numbersFit, wishFits, distanceFits, five, requirementsOf, refusalOf}
 use Rattle.refusals.proofs.Refused.{poses-fit-changed, ball-fits-changed}
 use Rattle.decision.specs.Decision.{ballCalledAmong, ballCalled, placeFor, wishedPlace, sideMargins, kickingPlayer, decisionOf}
 use Rattle.decision.specs.Changed.{changed, changedPlaces, keepsHeading, ChangedDecision, isExceptedBy, ExceptedBy, SignChangeClaim, MirrorImageClaim}
@@ -34,7 +34,7 @@ use Rattle.decision.proofs.Sides.{team-of-changed, side-margins-changed
 
 -- ---- the changed situation is accepted as the situation is
 pub refusal-changed : (a b : Bool) (s : Situation) (xs ys : List Float) → refusalOf (changed a b s) (changedPlaces a xs) (changedPlaces b ys) ≡ refusalOf s xs ys
-unfolding refusalOf conditionsOf
+unfolding refusalOf requirementsOf
 refusal-changed a b s xs ys =
     ap₂ (λ (p o : Bool). firstRefusal (five (fieldFits (s .field)) p o (numbersFit (s .home .goalkeeper) (s .away .goalkeeper) (s .restart) (s .wish)) (distanceFits (s .«penalty_placement_distance»))))
     (poses-fit-changed a b (s .home) (s .away) xs ys) (ball-fits-changed a b (s .ball))

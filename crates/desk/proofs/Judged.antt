@@ -14,7 +14,8 @@ use Rattle.lists.proofs.Table.{length-table, table-same}
 use Rattle.game.specs.declared.Situation.{Situation}
 use Rattle.refusals.specs.Refusals.{refusalOf}
 use Rattle.decision.specs.Decision.{decisionOf}
-use Rattle.replies.specs.Replies.{refusedLine, lineIn, writtenIn}
+use Rattle.replies.specs.Replies.{faultLine, refusedLine, lineIn, writtenIn}
+use Rattle.replies.proofs.Places.{line-known}
 use Rattle.call.specs.Call.{sheetAnswer, sheetAfter}
 use Rattle.call.proofs.Answers.{answer-cases, after-told}
 use Rattle.sheet.specs.Sheet.{textOf}
@@ -25,51 +26,60 @@ use Rattle.words.specs.Words.{situationOf}
 use Rattle.columns.specs.Layout.{wordCount}
 use Rattle.input.specs.Input.{firstX, firstY, numbersFor, mostNumbers, inputOf, placesIn}
 use Rattle.input.specs.declared.Input.{Input}
-use Rattle.input.specs.declared.Input.the-variants.{Read}
+use Rattle.input.specs.declared.Input.the-variants.{Read, Wrong}
+use Rattle.input.specs.declared.Fault.{Fault}
+use Rattle.input.proofs.Faults.{fault-known}
 use Rattle.input.proofs.Places.{parts}
 use Rattle.input.proofs.Stored.{stored-at, stored-front}
-use Rattle.desk.specs.Desk.{answerText, situationText, placesFrom, numbersText, inputText, judgedText}
+use Rattle.desk.specs.declared.Reply.{Reply}
+use Rattle.desk.specs.declared.Reply.the-variants.{Answer, Told}
+use Rattle.desk.specs.Desk.{Printed, told, answerPrinted, situationPrinted, placesFrom, numbersPrinted, inputPrinted, judgedPrinted, printedIn, replyIn}
 
 -- what the code adds to bytes that already hold the sheet of the answer
-abbrev replyLength : SheetAnswer → List ℕ → ℕ
-replyLength (Refused n) out = writtenIn (refusedLine n) out
-replyLength (Written n) out = n
+abbrev addedReply : SheetAnswer → List ℕ → Reply
+addedReply (Refused n) out = Told (writtenIn (refusedLine n) out)
+addedReply (Written n) out = Answer n
 
-abbrev replyOut : SheetAnswer → List ℕ → List ℕ
-replyOut (Refused n) out = lineIn (refusedLine n) out
-replyOut (Written n) out = out
+abbrev addedOut : SheetAnswer → List ℕ → List ℕ
+addedOut (Refused n) out = lineIn (refusedLine n) out
+addedOut (Written n) out = out
 
--- what is told, and the bytes after it
-abbrev Told : ℕ → List ℕ → List ℕ → List ℕ → Type 0
-Told n next text out = (n ≡ writtenIn text out) × (next ≡ lineIn text out)
+-- what is printed, and the bytes after it
+abbrev Prints : Reply → List ℕ → Printed → List ℕ → Type 0
+Prints r next p out = (r ≡ replyIn p out) × (next ≡ printedIn p out)
 
--- the same text told of another description of it
-pub told-as : (text same out next : List ℕ) (n : ℕ) → text ≡ same → Told n next text out → Told n next same out
-told-as text same out next n e t = (t .0 ∙ ap (λ (u : List ℕ). writtenIn u out) e, t .1 ∙ ap (λ (u : List ℕ). lineIn u out) e)
+-- the same by another description of it
+pub prints-as : (p same : Printed) (out next : List ℕ) (r : Reply) → p ≡ same → Prints r next p out → Prints r next same out
+prints-as p same out next r e t = (t .0 ∙ ap (λ (u : Printed). replyIn u out) e, t .1 ∙ ap (λ (u : Printed). printedIn u out) e)
+
+-- a line that is told
+pub told-printed : (text out next : List ℕ) (n : ℕ) → n ≡ writtenIn text out → next ≡ lineIn text out → Prints (Told n) next (told text) out
+unfolding replyIn printedIn
+told-printed text out next n a b = (ap Told a, b)
 
 module _ (s : Situation) (xs ys : List Float) (out : List ℕ) where
   text : List ℕ
   text = textOf (decisionOf s xs ys)
 
-  told : (b f : Bool) → eqb (refusalOf s xs ys) 0 ≡ b → ltb (length out) (length text) ≡ f
+  prints : (b f : Bool) → eqb (refusalOf s xs ys) 0 ≡ b → ltb (length out) (length text) ≡ f
       → (let a = cond b (cond f (Refused 7) (Written (length text))) (Refused (refusalOf s xs ys)) in
       let mid = cond b (cond f out (fronted text out)) out in
-      Told (replyLength a mid) (replyOut a mid) (answerText a text) out)
-  unfolding text writtenIn frontedInto
-  told false f eb ef = (refl, refl)
-  told true true eb ef = (refl, refl)
-  told true false eb ef = (ap (λ (b : Bool). cond b 0 (length text)) (sym ef), ap (λ (b : Bool). cond b out (fronted text out)) (sym ef))
+      Prints (addedReply a mid) (addedOut a mid) (answerPrinted a text) out)
+  unfolding text writtenIn frontedInto replyIn printedIn
+  prints false f eb ef = (refl, refl)
+  prints true true eb ef = (refl, refl)
+  prints true false eb ef = (ap (λ (b : Bool). Answer (cond b 0 (length text))) (sym ef), ap (λ (b : Bool). cond b out (fronted text out)) (sym ef))
 
   -- the sheet's answer and bytes, and what the reply makes of them
-  pub reply-told : (a : SheetAnswer) (mid next : List ℕ) (n : ℕ) → a ≡ sheetAnswer s xs ys (length out) → mid ≡ sheetAfter s xs ys out → n ≡ replyLength a mid → next ≡ replyOut a mid
-      → Told n next (situationText s xs ys (length out)) out
-  unfolding text frontedInto situationText
-  reply-told a mid next n ea em en ex =
-      let t = told (eqb (refusalOf s xs ys) 0) (ltb (length out) (length text)) refl refl in
+  pub reply-printed : (a : SheetAnswer) (mid next : List ℕ) (r : Reply) → a ≡ sheetAnswer s xs ys (length out) → mid ≡ sheetAfter s xs ys out → r ≡ addedReply a mid → next ≡ addedOut a mid
+      → Prints r next (situationPrinted s xs ys (length out)) out
+  unfolding text frontedInto situationPrinted
+  reply-printed a mid next r ea em er ex =
+      let t = prints (eqb (refusalOf s xs ys) 0) (ltb (length out) (length text)) refl refl in
       let cases = answer-cases s xs ys (length out) in
       let answer = ea ∙ cases in
       let bytes = em ∙ after-told s xs ys out in
-      told-as _ _ out next n (ap (λ (z : SheetAnswer). answerText z text) (sym cases)) (en ∙ ap₂ replyLength answer bytes ∙ t .0, ex ∙ ap₂ replyOut answer bytes ∙ t .1)
+      prints-as _ _ out next r (ap (λ (z : SheetAnswer). answerPrinted z text) (sym cases)) (er ∙ ap₂ addedReply answer bytes ∙ t .0, ex ∙ ap₂ addedOut answer bytes ∙ t .1)
 
 -- ---- the earlier places among the numbers
 -- the floats of a part of the numbers, taken from the front of the places that hold them
@@ -84,9 +94,9 @@ places-told ns from n k xs₀ xs same e room low =
     ∙ ap (λ (m : ℕ). table m f) count
     ∙ table-same n f (λ i. ofBits binary32 (getD ns (from + i) 0)) (λ i h. ap (ofBits binary32) (getD-take k (drop from ns) i 0 (omega (arith, same, h)) ∙ getD-drop from ns i 0))
 
-pub text-same : (s s' : Situation) (xs xs' ys ys' : List Float) (lent : ℕ) → s ≡ s' → xs ≡ xs' → ys ≡ ys' → situationText s xs ys lent ≡ situationText s' xs' ys' lent
-text-same s s' xs xs' ys ys' lent a b c =
-    ap (λ (z : Situation). situationText z xs ys lent) a ∙ ap₂ (λ (v w : List Float). situationText s' v w lent) b c
+pub printed-same : (s s' : Situation) (xs xs' ys ys' : List Float) (lent : ℕ) → s ≡ s' → xs ≡ xs' → ys ≡ ys' → situationPrinted s xs ys lent ≡ situationPrinted s' xs' ys' lent
+printed-same s s' xs xs' ys ys' lent a b c =
+    ap (λ (z : Situation). situationPrinted z xs ys lent) a ∙ ap₂ (λ (v w : List Float). situationPrinted s' v w lent) b c
 
 -- the numbers stay as many
 pub stored-long : (ns ms : List ℕ) → ms ≡ stored ns (replicate mostNumbers 0) → length ms ≡ mostNumbers
@@ -98,17 +108,21 @@ stored-long ns ms e =
     omega (arith, ap length e, long, length-append front (drop (length front) buffer), length-take (length buffer) ns, length-drop (length front) buffer)
 
 -- ---- by what the text is
-pub judged-as : (text : List ℕ) (lent : ℕ) (i : Input) → inputOf text ≡ i → inputText i (numbersOf text) lent ≡ judgedText text lent
-unfolding judgedText
-judged-as text lent i e = ap (λ (z : Input). inputText z (numbersOf text) lent) (sym e)
+judged-as : (text : List ℕ) (lent : ℕ) (i : Input) → inputOf text ≡ i → inputPrinted i (numbersOf text) lent ≡ judgedPrinted text lent
+unfolding judgedPrinted
+judged-as text lent i e = ap (λ (z : Input). inputPrinted z (numbersOf text) lent) (sym e)
 
--- a text that is no situation: what is told of its input is told of the text
-pub fault-told : (text out next : List ℕ) (n : ℕ) (r i : Input) → r ≡ inputOf text → r ≡ i → Told n next (inputText i (numbersOf text) (length out)) out → Told n next (judgedText text (length out)) out
-fault-told text out next n r i e f t = told-as (inputText i (numbersOf text) (length out)) (judgedText text (length out)) out next n (judged-as text (length out) i (sym e ∙ f)) t
+-- a text that is no situation: what is told by the numbers that were stored is told of the text
+pub judged-wrong : (text ms : List ℕ) (i : ℕ) (fault : Fault) (lent : ℕ) → inputOf text ≡ Wrong i fault → ms ≡ stored (numbersOf text) (replicate mostNumbers 0) → told (faultLine ms i fault) ≡ judgedPrinted text lent
+judged-wrong text ms i fault lent e m =
+    let long : length {A = ℕ} (replicate mostNumbers 0) ≡ mostNumbers = length-replicate {A = ℕ} mostNumbers 0 in
+    ap (λ (l : List ℕ). told (faultLine l i fault)) m
+    ∙ ap told (line-known _ _ i fault (fault-known text (replicate mostNumbers 0) i fault long e))
+    ∙ judged-as text lent (Wrong i fault) e
 
 -- a situation, read from the numbers that were stored
-pub judged-read : (text ms : List ℕ) (nx ny lent : ℕ) → inputOf text ≡ Read nx ny → ms ≡ stored (numbersOf text) (replicate mostNumbers 0) → numbersText ms nx ny lent ≡ judgedText text lent
-unfolding numbersText placesFrom
+pub judged-read : (text ms : List ℕ) (nx ny lent : ℕ) → inputOf text ≡ Read nx ny → ms ≡ stored (numbersOf text) (replicate mostNumbers 0) → numbersPrinted ms nx ny lent ≡ judgedPrinted text lent
+unfolding numbersPrinted placesFrom
 judged-read text ms nx ny lent e m =
     let p = parts text nx ny e in
     let ns = numbersOf text in
@@ -118,7 +132,7 @@ judged-read text ms nx ny lent e m =
     let at : (k : ℕ) → k < numbersFor nx ny → getD ms k 0 ≡ getD ns k 0 =
     λ k h. ap (λ (l : List ℕ). getD l k 0) m ∙ stored-at ns buffer k (omega (arith, h, p .whole)) (omega (arith, h, p .few-x, p .few-y, long)) in
     let float : (k : ℕ) → k < numbersFor nx ny → ofBits binary32 (getD ms k 0) ≡ ofBits binary32 (getD ns k 0) = λ k h. ap (ofBits binary32) (at k h) in
-    text-same _ _ _ _ _ _ lent (ap situationOf words)
+    printed-same _ _ _ _ _ _ lent (ap situationOf words)
     (table-same nx (λ k. ofBits binary32 (getD ms (firstX + k) 0)) (λ k. ofBits binary32 (getD ns (firstX + k) 0)) (λ k h. float (firstX + k) (omega (arith, h))))
     (table-same ny (λ k. ofBits binary32 (getD ms (firstY + nx + k) 0)) (λ k. ofBits binary32 (getD ns (firstY + nx + k) 0)) (λ k h. float (firstY + nx + k) (omega (arith, h))))
     ∙ judged-as text lent (Read nx ny) e

@@ -3,7 +3,6 @@ ghost use mathlib.Core.Path.{_≡_};
 ghost use Prim.Native.Nat.{_≤_};
 ghost use lib.ListN.{length};
 ghost use Rattle.input.specs.Input.{mostPlaces, numbersFor};
-ghost use Rattle.replies.specs.Replies.{lineIn, writtenIn};
 ghost use Rattle.desk.specs.Desk as Spec;
 use columns::layout::WORDS;
 use game::Situation;
@@ -14,23 +13,29 @@ use input::NUMBERS;
 use input::PLACES;
 use sheet::SheetAnswer;
 
+// What was written, of so many bytes: an answer, which is a sheet, or something else that is told, a refusal or what is wrong with the input.
+pub enum Reply {
+    Answer(usize),
+    Told(usize),
+}
+
 // Decides on a situation: its sheet, or the line of its refusal.
-fn judge_situation<'a>(s: Situation, xs: &'a [f32], ys: &'a [f32], out: &mut [u8]) -> usize
-    ensures { λ r. ⌜ r ≡ writtenIn (Spec.situationText s (now (xs .entry)) (now (ys .entry)) (length (now (out .entry)))) (now (out .entry)) ⌝ }
-    ensures { λ _. ⌜ now (out .exit) ≡ lineIn (Spec.situationText s (now (xs .entry)) (now (ys .entry)) (length (now (out .entry)))) (now (out .entry)) ⌝ }
+fn judge_situation<'a>(s: Situation, xs: &'a [f32], ys: &'a [f32], out: &mut [u8]) -> Reply
+    ensures { λ r. ⌜ r ≡ Spec.replyIn (Spec.situationPrinted s (now (xs .entry)) (now (ys .entry)) (length (now (out .entry)))) (now (out .entry)) ⌝ }
+    ensures { λ _. ⌜ now (out .exit) ≡ Spec.printedIn (Spec.situationPrinted s (now (xs .entry)) (now (ys .entry)) (length (now (out .entry)))) (now (out .entry)) ⌝ }
 {
     let answer = call::write_sheet(s, xs, ys, out);
     match answer {
-        SheetAnswer::Refused(n) => replies::refused_line(n, out),
-        SheetAnswer::Written(n) => n,
+        SheetAnswer::Refused(n) => Reply::Told(replies::refused_line(n, out)),
+        SheetAnswer::Written(n) => Reply::Answer(n),
     }
 }
 
 // The same of a situation as numbers, of which nx are earlier x and ny earlier y.
-fn judge_numbers(numbers: &[u32], nx: usize, ny: usize, out: &mut [u8]) -> usize
+fn judge_numbers(numbers: &[u32], nx: usize, ny: usize, out: &mut [u8]) -> Reply
     requires { ⌜ (nx ≤ mostPlaces) × (ny ≤ mostPlaces) × (numbersFor nx ny ≤ length (now numbers)) ⌝ }
-    ensures { λ r. ⌜ r ≡ writtenIn (Spec.numbersText (now (numbers .entry)) nx ny (length (now (out .entry)))) (now (out .entry)) ⌝ }
-    ensures { λ _. ⌜ now (out .exit) ≡ lineIn (Spec.numbersText (now (numbers .entry)) nx ny (length (now (out .entry)))) (now (out .entry)) ⌝ }
+    ensures { λ r. ⌜ r ≡ Spec.replyIn (Spec.numbersPrinted (now (numbers .entry)) nx ny (length (now (out .entry)))) (now (out .entry)) ⌝ }
+    ensures { λ _. ⌜ now (out .exit) ≡ Spec.printedIn (Spec.numbersPrinted (now (numbers .entry)) nx ny (length (now (out .entry)))) (now (out .entry)) ⌝ }
 {
     let mut xs = [0.0f32; PLACES];
     let mut ys = [0.0f32; PLACES];
@@ -42,20 +47,15 @@ fn judge_numbers(numbers: &[u32], nx: usize, ny: usize, out: &mut [u8]) -> usize
 }
 
 // Reads a situation from a text and writes what is printed for it at the front of the lent bytes; the bytes after it are kept. Where these are too few for
-// that, 0, and all of them are kept.
-pub fn judge(text: &[u8], out: &mut [u8]) -> usize
-    ensures { λ r. ⌜ r ≡ writtenIn (Spec.judgedText (now (text .entry)) (length (now (out .entry)))) (now (out .entry)) ⌝ }
-    ensures { λ _. ⌜ now (out .exit) ≡ lineIn (Spec.judgedText (now (text .entry)) (length (now (out .entry)))) (now (out .entry)) ⌝ }
+// that, it is 0 bytes, and all of them are kept.
+pub fn judge(text: &[u8], out: &mut [u8]) -> Reply
+    ensures { λ r. ⌜ r ≡ Spec.replyIn (Spec.judgedPrinted (now (text .entry)) (length (now (out .entry)))) (now (out .entry)) ⌝ }
+    ensures { λ _. ⌜ now (out .exit) ≡ Spec.printedIn (Spec.judgedPrinted (now (text .entry)) (length (now (out .entry)))) (now (out .entry)) ⌝ }
 {
     let mut numbers = [0u32; NUMBERS];
     let input = input::read_input(text, &mut numbers);
     match input {
         Input::Read(nx, ny) => judge_numbers(&numbers, nx, ny, out),
-        Input::NotANumber(k) => replies::number_line(k, b"not a decimal number", out),
-        Input::TooLarge(k) => replies::number_line(k, b"greater than 4294967295", out),
-        Input::Outside(k) => replies::number_line(k, b"none of its column's values", out),
-        Input::LongList(k) => replies::number_line(k, b"a list of more than 4097", out),
-        Input::Missing(k) => replies::number_line(k, b"missing", out),
-        Input::Extra(k) => replies::number_line(k, b"more than the situation has", out),
+        Input::Wrong(i, fault) => Reply::Told(replies::fault_line(&numbers, i, fault, out)),
     }
 }

@@ -8,11 +8,12 @@ use Rattle.columns.specs.Layout.{wordCount, layout, columnsOf, columns}
 use Rattle.columns.specs.Columns.{frontTo, frontWithin, wordsWithin}
 use Rattle.numbers.specs.Numbers.{pieces, nonEmpty, allDigits, valueFrom, numbersIn, readingFrom}
 use Rattle.input.specs.declared.Input.{Input}
-use Rattle.input.specs.declared.Input.the-variants.{Read, NotANumber, Outside, LongList, Missing, Extra}
+use Rattle.input.specs.declared.Input.the-variants.{Read, Wrong}
+use Rattle.input.specs.declared.Fault.the-variants.{NotANumber, Outside, LongList, Missing, Extra}
 use Rattle.input.specs.Input.{afterCounts, afterX, afterWords, withWords, inputOf}
 
 -- the empty text, "x" and "5"
-short : (inputOf [] ≡ Missing 1) × (inputOf (120 ∷ []) ≡ NotANumber 1) × (inputOf (53 ∷ []) ≡ Missing 2)
+short : (inputOf [] ≡ Wrong 0 Missing) × (inputOf (120 ∷ []) ≡ Wrong 0 NotANumber) × (inputOf (53 ∷ []) ≡ Wrong 1 Missing)
 unfolding pieces nonEmpty allDigits valueFrom numbersIn readingFrom flatTo layout columnsOf columns frontTo frontWithin wordsWithin afterCounts afterX afterWords withWords inputOf
 short = (refl, refl, refl)
 
@@ -21,8 +22,8 @@ unfoldable zeros : ℕ → List ℕ
 zeros zero = []
 zeros (suc n) = 48 ∷ 32 ∷ zeros n
 
--- the 16th number, the sides, is 2
-sides : inputOf (zeros 15 ++ (50 ∷ [])) ≡ Outside 16
+-- the word 15, the sides, is 2
+sides : inputOf (zeros 15 ++ (50 ∷ [])) ≡ Wrong 15 Outside
 unfolding pieces nonEmpty allDigits valueFrom numbersIn readingFrom flatTo layout columnsOf columns frontTo frontWithin wordsWithin afterCounts afterX afterWords withWords inputOf zeros
 sides = refl
 
@@ -36,11 +37,11 @@ afterZeros : List ℕ → Input
 afterZeros ns = afterWords (replicate wordCount 0 ++ ns) (wordCount + length ns)
 
 -- no list; one x and two y, and with a number less and a number more
-lists : (afterZeros (0 ∷ 0 ∷ []) ≡ Read 0 0) × (afterZeros (1 ∷ 7 ∷ 2 ∷ 8 ∷ 9 ∷ []) ≡ Read 1 2) × (afterZeros (1 ∷ 7 ∷ 2 ∷ 8 ∷ []) ≡ Missing 568) × (afterZeros (1 ∷ 7 ∷ 2 ∷ 8 ∷ 9 ∷ 9 ∷ []) ≡ Extra 569)
+lists : (afterZeros (0 ∷ 0 ∷ []) ≡ Read 0 0) × (afterZeros (1 ∷ 7 ∷ 2 ∷ 8 ∷ 9 ∷ []) ≡ Read 1 2) × (afterZeros (1 ∷ 7 ∷ 2 ∷ 8 ∷ []) ≡ Wrong 567 Missing) × (afterZeros (1 ∷ 7 ∷ 2 ∷ 8 ∷ 9 ∷ 9 ∷ []) ≡ Wrong 568 Extra)
 unfolding afterZeros afterCounts afterX afterWords
 lists = (refl, refl, refl, refl)
 
 -- lists of 4,097, of which nothing is there, and of 4,098
-longest : (afterZeros (4097 ∷ []) ≡ Missing 565) × (afterZeros (4098 ∷ []) ≡ LongList 564) × (afterZeros (0 ∷ 4097 ∷ []) ≡ Missing 566) × (afterZeros (0 ∷ 4098 ∷ []) ≡ LongList 565)
+longest : (afterZeros (4097 ∷ []) ≡ Wrong 564 Missing) × (afterZeros (4098 ∷ []) ≡ Wrong 563 LongList) × (afterZeros (0 ∷ 4097 ∷ []) ≡ Wrong 565 Missing) × (afterZeros (0 ∷ 4098 ∷ []) ≡ Wrong 564 LongList)
 unfolding afterZeros afterCounts afterX afterWords
 longest = (refl, refl, refl, refl)

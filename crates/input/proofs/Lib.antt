@@ -1,4 +1,5 @@
 pub mod Stored
+pub mod Faults
 pub mod Filled
 pub mod Places
 pub mod Cases

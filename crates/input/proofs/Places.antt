@@ -16,7 +16,8 @@ use Rattle.numbers.specs.declared.Reading.the-variants as Numbers
 use Rattle.numbers.specs.Numbers.{numbersOf, readingOf}
 use Rattle.numbers.proofs.Count.{read-count}
 use Rattle.input.specs.declared.Input.{Input}
-use Rattle.input.specs.declared.Input.the-variants.{Read, NotANumber, TooLarge, Outside, LongList, Missing, Extra}
+use Rattle.input.specs.declared.Input.the-variants.{Read, Wrong}
+use Rattle.input.specs.declared.Fault.the-variants.{Outside, LongList, Missing, Extra}
 use Rattle.input.specs.Input.{mostPlaces, countX, countY, numbersFor, afterCounts, afterX, afterWords, withWords, laidOut, inputOf}
 
 -- the numbers ns are words within their columns, nx with nx patterns and ny with ny patterns
@@ -37,8 +38,8 @@ module _ (n nx ny : ℕ) where
   of-counts : (a b : ℕ) → afterCounts n a b ≡ Read nx ny → (a ≡ nx) × (b ≡ ny) × (n ≡ numbersFor nx ny)
   unfolding afterCounts
   of-counts a b e =
-      let one = fault-left (ltb n (numbersFor a b)) (Missing (n + 1)) _ nx ny (λ (q : Missing (n + 1) ≡ Read nx ny). cc) e in
-      let two = fault-left (ltb (numbersFor a b) n) (Extra (numbersFor a b + 1)) _ nx ny (λ (q : Extra (numbersFor a b + 1) ≡ Read nx ny). cc) (one .1) in
+      let one = fault-left (ltb n (numbersFor a b)) (Wrong n Missing) _ nx ny (λ (q : Wrong n Missing ≡ Read nx ny). cc) e in
+      let two = fault-left (ltb (numbersFor a b) n) (Wrong (numbersFor a b) Extra) _ nx ny (λ (q : Wrong (numbersFor a b) Extra ≡ Read nx ny). cc) (one .1) in
       let read : Read a b ≡ Read nx ny = two .1 in
       let x : a ≡ nx = cc in
       let y : b ≡ ny = cc in
@@ -48,8 +49,8 @@ module _ (n nx ny : ℕ) where
   unfolding afterX
   of-x ns a e =
       let b = getD ns (countY a) 0 in
-      let one = fault-left (leb n (countY a)) (Missing (n + 1)) _ nx ny (λ (q : Missing (n + 1) ≡ Read nx ny). cc) e in
-      let two = fault-left (ltb mostPlaces b) (LongList (countY a + 1)) _ nx ny (λ (q : LongList (countY a + 1) ≡ Read nx ny). cc) (one .1) in
+      let one = fault-left (leb n (countY a)) (Wrong n Missing) _ nx ny (λ (q : Wrong n Missing ≡ Read nx ny). cc) e in
+      let two = fault-left (ltb mostPlaces b) (Wrong (countY a) LongList) _ nx ny (λ (q : Wrong (countY a) LongList ≡ Read nx ny). cc) (one .1) in
       let known = of-counts a b (two .1) in
       let y : getD ns (countY nx) 0 ≡ ny = ap (λ (k : ℕ). getD ns (countY k) 0) (sym (known .0)) ∙ known .1 in
       (known .0, y, omega (arith, ltb-false mostPlaces b (two .0)), known .2)
@@ -58,8 +59,8 @@ module _ (n nx ny : ℕ) where
   unfolding afterWords
   of-words ns e =
       let a = getD ns countX 0 in
-      let one = fault-left (leb n countX) (Missing (n + 1)) _ nx ny (λ (q : Missing (n + 1) ≡ Read nx ny). cc) e in
-      let two = fault-left (ltb mostPlaces a) (LongList (countX + 1)) _ nx ny (λ (q : LongList (countX + 1) ≡ Read nx ny). cc) (one .1) in
+      let one = fault-left (leb n countX) (Wrong n Missing) _ nx ny (λ (q : Wrong n Missing ≡ Read nx ny). cc) e in
+      let two = fault-left (ltb mostPlaces a) (Wrong countX LongList) _ nx ny (λ (q : Wrong countX LongList ≡ Read nx ny). cc) (one .1) in
       let known = of-x ns a (two .1) in
       (known .0, omega (arith, ltb-false mostPlaces a (two .0)), known .1, known .2, known .3)
 
@@ -71,7 +72,7 @@ of-numbers : (ns : List ℕ) (n nx ny : ℕ) → length ns ≡ n → withWords n
 unfolding withWords
 of-numbers ns n nx ny l e =
     let w = wordsWithin (take wordCount ns) in
-    let one = fault-left (ltb w (min n wordCount)) (Outside (w + 1)) _ nx ny (λ (q : Outside (w + 1) ≡ Read nx ny). cc) e in
+    let one = fault-left (ltb w (min n wordCount)) (Wrong w Outside) _ nx ny (λ (q : Wrong w Outside ≡ Read nx ny). cc) e in
     let known = of-words n nx ny ns (one .1) in
     record {
       words-within = omega (arith, ltb-false w (min n wordCount) (one .0), most-within (take wordCount ns));
@@ -87,6 +88,6 @@ unfolding inputOf
 parts text nx ny e = go (readingOf text) refl e
   where
     go : (g : Reading) → readingOf text ≡ g → laidOut g (numbersOf text) ≡ Read nx ny → Parts (numbersOf text) nx ny
-    go (Numbers.Read n) q e = of-numbers (numbersOf text) n nx ny (read-count text n q) e
+    go (Numbers.Read n) q e = of-numbers (numbersOf text) n nx ny (read-count text (Numbers.Read n) q) e
     go (Numbers.NotANumber k) q e = let z : _≡_ {A = ℕ} 0 1 = cc in absurd (omega arith)
     go (Numbers.TooLarge k) q e = let z : _≡_ {A = ℕ} 0 1 = cc in absurd (omega arith)

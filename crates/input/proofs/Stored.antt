@@ -16,7 +16,8 @@ use Rattle.numbers.specs.declared.Reading.the-variants as Numbers
 use Rattle.numbers.specs.Numbers.{numbersOf, readingOf, stored}
 use Rattle.numbers.proofs.Count.{read-count}
 use Rattle.input.specs.declared.Input.{Input}
-use Rattle.input.specs.declared.Input.the-variants.{LongList, Missing, Outside}
+use Rattle.input.specs.declared.Input.the-variants.{Wrong}
+use Rattle.input.specs.declared.Fault.the-variants.{LongList, Missing, Outside}
 use Rattle.input.specs.Input.{mostPlaces, countX, countY, mostNumbers, afterCounts, afterX, afterWords, withWords, laidOut, inputOf}
 
 -- ---- a number, and a front
@@ -39,9 +40,9 @@ module _ (ms ns : List ℕ) (n : ℕ) (same : (k : ℕ) → k < n → k < mostNu
   same-x nx few = go (leb n (countY nx)) refl
     where
       past : ℕ → Input
-      past ny = cond (ltb mostPlaces ny) (LongList (countY nx + 1)) (afterCounts n nx ny)
+      past ny = cond (ltb mostPlaces ny) (Wrong (countY nx) LongList) (afterCounts n nx ny)
 
-      go : (b : Bool) → leb n (countY nx) ≡ b → cond b (Missing (n + 1)) (past (getD ms (countY nx) 0)) ≡ cond b (Missing (n + 1)) (past (getD ns (countY nx) 0))
+      go : (b : Bool) → leb n (countY nx) ≡ b → cond b (Wrong n Missing) (past (getD ms (countY nx) 0)) ≡ cond b (Wrong n Missing) (past (getD ns (countY nx) 0))
       go true e = refl
       go false e = ap past (same (countY nx) (omega (arith, leb-false n (countY nx) e)) (omega arith))
 
@@ -50,19 +51,19 @@ module _ (ms ns : List ℕ) (n : ℕ) (same : (k : ℕ) → k < n → k < mostNu
   same-words = go (leb n countX) refl
     where
       past : List ℕ → ℕ → Input
-      past l nx = cond (ltb mostPlaces nx) (LongList (countX + 1)) (afterX l n nx)
+      past l nx = cond (ltb mostPlaces nx) (Wrong countX LongList) (afterX l n nx)
 
-      few : (nx : ℕ) (b : Bool) → ltb mostPlaces nx ≡ b → cond b (LongList (countX + 1)) (afterX ms n nx) ≡ cond b (LongList (countX + 1)) (afterX ns n nx)
+      few : (nx : ℕ) (b : Bool) → ltb mostPlaces nx ≡ b → cond b (Wrong countX LongList) (afterX ms n nx) ≡ cond b (Wrong countX LongList) (afterX ns n nx)
       few nx true e = refl
       few nx false e = same-x nx (ltb-false mostPlaces nx e)
 
-      go : (b : Bool) → leb n countX ≡ b → cond b (Missing (n + 1)) (past ms (getD ms countX 0)) ≡ cond b (Missing (n + 1)) (past ns (getD ns countX 0))
+      go : (b : Bool) → leb n countX ≡ b → cond b (Wrong n Missing) (past ms (getD ms countX 0)) ≡ cond b (Wrong n Missing) (past ns (getD ns countX 0))
       go true e = refl
       go false e = ap (past ms) (same countX (omega (arith, leb-false n countX e)) (omega arith)) ∙ few (getD ns countX 0) (ltb mostPlaces (getD ns countX 0)) refl
 
   pub same-all : (w : ℕ) → withWords ms n w ≡ withWords ns n w
   unfolding withWords
-  same-all w = ap (cond (ltb w (min n wordCount)) (Outside (w + 1))) same-words
+  same-all w = ap (cond (ltb w (min n wordCount)) (Wrong w Outside)) same-words
 
 -- ---- the whole
 -- the words that are there
@@ -85,5 +86,5 @@ pub input-of-read : (text buffer ms : List ℕ) (n : ℕ) (r : Input) → length
 unfolding inputOf
 input-of-read text buffer ms n r l e em er =
     er ∙ ap (λ (l : List ℕ). withWords l n (wordsWithin (take (min n wordCount) l))) em
-    ∙ stored-laid-out (numbersOf text) buffer n (read-count text n e) l
+    ∙ stored-laid-out (numbersOf text) buffer n (read-count text (Numbers.Read n) e) l
     ∙ ap (λ (g : Reading). laidOut g (numbersOf text)) (sym e)

@@ -5,15 +5,16 @@ use Prim.Native.Nat.{ℕ, _+_, _≤_, _<_, min}
 use borrow.Author.Tests.{lt-ltb, le-ltb, le-leb, lt-leb}
 use lib.ListN.{getD}
 use Rattle.columns.specs.Layout.{wordCount}
-use Rattle.input.specs.declared.Input.the-variants.{Read, Outside, LongList, Missing, Extra}
+use Rattle.input.specs.declared.Input.the-variants.{Read, Wrong}
+use Rattle.input.specs.declared.Fault.the-variants.{Outside, LongList, Missing, Extra}
 use Rattle.input.specs.Input.{mostPlaces, countX, countY, numbersFor, afterCounts, afterX, afterWords, withWords}
 
 module _ (n nx ny : ℕ) where
-  pub too-few : n < numbersFor nx ny → Missing (n + 1) ≡ afterCounts n nx ny
+  pub too-few : n < numbersFor nx ny → Wrong n Missing ≡ afterCounts n nx ny
   unfolding afterCounts
   too-few h = simp (lt-ltb _ _ h)
 
-  pub too-many : numbersFor nx ny < n → numbersFor nx ny ≤ n → Extra (numbersFor nx ny + 1) ≡ afterCounts n nx ny
+  pub too-many : numbersFor nx ny < n → numbersFor nx ny ≤ n → Wrong (numbersFor nx ny) Extra ≡ afterCounts n nx ny
   unfolding afterCounts
   too-many h g = simp (le-ltb _ _ g, lt-ltb _ _ h)
 
@@ -23,11 +24,11 @@ module _ (n nx ny : ℕ) where
 
 module _ (ns : List ℕ) (n : ℕ) where
   module _ (nx : ℕ) where
-    pub y-missing : n ≤ countY nx → Missing (n + 1) ≡ afterX ns n nx
+    pub y-missing : n ≤ countY nx → Wrong n Missing ≡ afterX ns n nx
     unfolding afterX
     y-missing h = simp (le-leb _ _ h)
 
-    pub y-long : (ny : ℕ) → ny ≡ getD ns (countY nx) 0 → countY nx < n → mostPlaces < ny → LongList (countY nx + 1) ≡ afterX ns n nx
+    pub y-long : (ny : ℕ) → ny ≡ getD ns (countY nx) 0 → countY nx < n → mostPlaces < ny → Wrong (countY nx) LongList ≡ afterX ns n nx
     unfolding afterX
     y-long ny e g h = rw (← e) (simp (lt-leb _ _ g, lt-ltb _ _ h))
 
@@ -35,11 +36,11 @@ module _ (ns : List ℕ) (n : ℕ) where
     unfolding afterX
     y-counted ny e g h = rw (← e) (simp (lt-leb _ _ g, le-ltb _ _ h))
 
-  pub x-missing : n ≤ countX → Missing (n + 1) ≡ afterWords ns n
+  pub x-missing : n ≤ countX → Wrong n Missing ≡ afterWords ns n
   unfolding afterWords
   x-missing h = simp (le-leb _ _ h)
 
-  pub x-long : (nx : ℕ) → nx ≡ getD ns countX 0 → countX < n → mostPlaces < nx → LongList (countX + 1) ≡ afterWords ns n
+  pub x-long : (nx : ℕ) → nx ≡ getD ns countX 0 → countX < n → mostPlaces < nx → Wrong countX LongList ≡ afterWords ns n
   unfolding afterWords
   x-long nx e g h = rw (← e) (simp (lt-leb _ _ g, lt-ltb _ _ h))
 
@@ -47,7 +48,7 @@ module _ (ns : List ℕ) (n : ℕ) where
   unfolding afterWords
   x-counted nx e g h = rw (← e) (simp (lt-leb _ _ g, le-ltb _ _ h))
 
-  pub outside : (w : ℕ) → w < min n wordCount → Outside (w + 1) ≡ withWords ns n w
+  pub outside : (w : ℕ) → w < min n wordCount → Wrong w Outside ≡ withWords ns n w
   unfolding withWords
   outside w h = simp (lt-ltb _ _ h)
 

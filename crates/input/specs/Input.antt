@@ -1,5 +1,5 @@
 -- The numbers of a text as a situation, or what is wrong with them: the words, the number of earlier x and their patterns, the number of earlier y and theirs. Definitions only.
--- ns are the numbers and n is how many they are. A fault names a number, counted from 1.
+-- ns are the numbers and n is how many they are. A fault stands at a number, counted from 0.
 use mathlib.Core.Bool.{cond}
 use mathlib.Core.List.{List}
 use Prim.Native.Nat.{ℕ, _+_, _*_, min}
@@ -14,7 +14,8 @@ use Rattle.numbers.specs.declared.Reading.{Reading}
 use Rattle.numbers.specs.declared.Reading.the-variants as Numbers
 use Rattle.numbers.specs.Numbers.{numbersOf, readingOf}
 use Rattle.input.specs.declared.Input.{Input}
-use Rattle.input.specs.declared.Input.the-variants.{Read, NotANumber, TooLarge, Outside, LongList, Missing, Extra}
+use Rattle.input.specs.declared.Input.the-variants.{Read, Wrong}
+use Rattle.input.specs.declared.Fault.the-variants.{NotANumber, TooLarge, Outside, LongList, Missing, Extra}
 
 -- the most earlier places of a list
 abbrev pub mostPlaces : ℕ
@@ -43,25 +44,25 @@ mostNumbers = firstY + 2 * mostPlaces
 
 -- with nx earlier x and ny earlier y there must be just so many numbers
 unfoldable pub afterCounts : ℕ → ℕ → ℕ → Input
-afterCounts n nx ny = cond (ltb n (numbersFor nx ny)) (Missing (n + 1)) (cond (ltb (numbersFor nx ny) n) (Extra (numbersFor nx ny + 1)) (Read nx ny))
+afterCounts n nx ny = cond (ltb n (numbersFor nx ny)) (Wrong n Missing) (cond (ltb (numbersFor nx ny) n) (Wrong (numbersFor nx ny) Extra) (Read nx ny))
 
 -- with nx earlier x: the number after these is that of the earlier y
 unfoldable pub afterX : List ℕ → ℕ → ℕ → Input
-afterX ns n nx = cond (leb n (countY nx)) (Missing (n + 1)) (cond (ltb mostPlaces (getD ns (countY nx) 0)) (LongList (countY nx + 1)) (afterCounts n nx (getD ns (countY nx) 0)))
+afterX ns n nx = cond (leb n (countY nx)) (Wrong n Missing) (cond (ltb mostPlaces (getD ns (countY nx) 0)) (Wrong (countY nx) LongList) (afterCounts n nx (getD ns (countY nx) 0)))
 
 -- the number after the words is that of the earlier x
 unfoldable pub afterWords : List ℕ → ℕ → Input
-afterWords ns n = cond (leb n countX) (Missing (n + 1)) (cond (ltb mostPlaces (getD ns countX 0)) (LongList (countX + 1)) (afterX ns n (getD ns countX 0)))
+afterWords ns n = cond (leb n countX) (Wrong n Missing) (cond (ltb mostPlaces (getD ns countX 0)) (Wrong countX LongList) (afterX ns n (getD ns countX 0)))
 
 -- w words are within their columns before the first that is not; these must be all the words that are there
 unfoldable pub withWords : List ℕ → ℕ → ℕ → Input
-withWords ns n w = cond (ltb w (min n wordCount)) (Outside (w + 1)) (afterWords ns n)
+withWords ns n w = cond (ltb w (min n wordCount)) (Wrong w Outside) (afterWords ns n)
 
 -- what a text is by its reading and its numbers; of a whole reading, the words come first
 abbrev pub laidOut : Reading → List ℕ → Input
 laidOut (Numbers.Read n) ns = withWords ns n (wordsWithin (take wordCount ns))
-laidOut (Numbers.NotANumber k) ns = NotANumber k
-laidOut (Numbers.TooLarge k) ns = TooLarge k
+laidOut (Numbers.NotANumber i) ns = Wrong i NotANumber
+laidOut (Numbers.TooLarge i) ns = Wrong i TooLarge
 
 -- how many earlier x and earlier y a text has, or what is wrong with it
 unfoldable pub inputOf : List ℕ → Input

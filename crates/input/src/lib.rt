@@ -9,19 +9,24 @@ ghost use Rattle.columns.specs.Columns.{wordsWithin};
 ghost use Rattle.numbers.specs.Numbers.{numbersOf, stored};
 ghost use Rattle.input.specs.Input as Spec;
 
-// How many earlier x and earlier y an input has; or what is wrong with it, and at which number, counted from 1.
+// What is wrong with a number of an input.
+pub enum Fault {
+    // Its field has a byte that is no digit, or is of 2^32 or more.
+    NotANumber,
+    TooLarge,
+    // It is a word and none of its column's values.
+    Outside,
+    // It is the number of a list and more than PLACES.
+    LongList,
+    // It is the first that is not there, or the first that is too many.
+    Missing,
+    Extra,
+}
+
+// How many earlier x and earlier y an input has; or the number, counted from 0, with which something is wrong.
 pub enum Input {
     Read(usize, usize),
-    // A field with a byte that is no digit, and one of 2^32 or more.
-    NotANumber(usize),
-    TooLarge(usize),
-    // A word that is none of its column's values.
-    Outside(usize),
-    // The number of a list, where it is more than PLACES.
-    LongList(usize),
-    // The first number that is not there, and the first that is too many.
-    Missing(usize),
-    Extra(usize),
+    Wrong(usize, Fault),
 }
 
 // The most earlier places of a list.
@@ -59,29 +64,29 @@ fn laid_out(numbers: &[u32], n: usize) -> Input
     let there = lesser(n, WORDS);
     let w = columns::words_within(&numbers[..there]);
     if w < there {
-        return Input::Outside(w + 1);
+        return Input::Wrong(w, Fault::Outside);
     }
     if n <= WORDS {
-        return Input::Missing(n + 1);
+        return Input::Wrong(n, Fault::Missing);
     }
     let nx = count_of(numbers[WORDS]);
     if PLACES < nx {
-        return Input::LongList(FIRST_X);
+        return Input::Wrong(WORDS, Fault::LongList);
     }
     let at = FIRST_X + nx;
     if n <= at {
-        return Input::Missing(n + 1);
+        return Input::Wrong(n, Fault::Missing);
     }
     let ny = count_of(numbers[at]);
     if PLACES < ny {
-        return Input::LongList(at + 1);
+        return Input::Wrong(at, Fault::LongList);
     }
     let all = FIRST_Y + nx + ny;
     if n < all {
-        return Input::Missing(n + 1);
+        return Input::Wrong(n, Fault::Missing);
     }
     if all < n {
-        return Input::Extra(all + 1);
+        return Input::Wrong(all, Fault::Extra);
     }
     Input::Read(nx, ny)
 }
@@ -94,8 +99,8 @@ pub fn read_input(text: &[u8], numbers: &mut [u32; NUMBERS]) -> Input
     let reading = numbers::read_numbers(text, numbers);
     match reading {
         Reading::Read(n) => laid_out(numbers, n),
-        Reading::NotANumber(k) => Input::NotANumber(k),
-        Reading::TooLarge(k) => Input::TooLarge(k),
+        Reading::NotANumber(i) => Input::Wrong(i, Fault::NotANumber),
+        Reading::TooLarge(i) => Input::Wrong(i, Fault::TooLarge),
     }
 }
 

@@ -1,6 +1,12 @@
-// Reads a situation from standard input as decimal numbers and prints its sheet, or `refused N`, or one line that says what is wrong and at which number.
+// judge [COMMAND] [FILE]: the answer goes to standard output; all else that is told, one line, goes to standard error.
 ghost use mathlib.Core.Path.{_≡_};
 ghost use lib.ListN.{length};
+ghost use Rattle.io.specs.Counts.{Counts};
+use arguments::Asked;
+use arguments::Command;
+use arguments::Source;
+use desk::Reply;
+use libc::STDERR_FILENO;
 use libc::STDIN_FILENO;
 use libc::STDOUT_FILENO;
 
@@ -17,14 +23,100 @@ fn room() -> [u8; ROOM]
     [0; ROOM]
 }
 
-fn main() {
+// How many bytes were read, and whether no read failed.
+struct Got {
+    size: usize,
+    whole: bool,
+}
+
+// Reads until the input ends or the room is full.
+fn read_text(fd: i32, room: &mut [u8]) -> Got
+    ensures { λ r. ⌜ Counts (r .size) (now (room .exit)) ⌝ }
+{
+    let mut size: usize = 0;
+    while size < room.len() {
+        let got = libc::read(fd, &mut room[size..]);
+        if got < 0 {
+            return Got { size, whole: false };
+        }
+        let more = io::count(got, &room[size..]);
+        if more == 0 {
+            return Got { size, whole: true };
+        }
+        size += more;
+    }
+    Got { size, whole: true }
+}
+
+// "cannot read NAME: why", by errno.
+fn cannot_read(name: &[u8]) {
+    io::write_all(STDERR_FILENO, b"cannot read ");
+    os::fail(name);
+}
+
+fn tell(line: &[u8]) {
+    io::write_all(STDERR_FILENO, line);
+}
+
+fn answer(text: &[u8]) {
+    if !io::write_all(STDOUT_FILENO, text) {
+        os::fail(b"cannot write standard output");
+    }
+}
+
+// Judges what is read from a descriptor; its name is for a failed read.
+fn judge(fd: i32, name: &[u8]) {
     let mut text = room();
-    let n = io::read_full(STDIN_FILENO, &mut text);
-    if n == ROOM {
-        io::write_all(STDOUT_FILENO, b"the input has more than 262143 bytes\n");
+    let got = read_text(fd, &mut text);
+    if !got.whole {
+        cannot_read(name);
         return;
     }
+    if got.size == ROOM {
+        tell(b"the input has more than 262143 bytes\n");
+        return;
+    }
+    let n = got.size;
     let mut out = [0u8; SHEET];
-    let m = desk::judge(&text[..n], &mut out);
-    io::write_all(STDOUT_FILENO, replies::front(&out, m));
+    let reply = desk::judge(&text[..n], &mut out);
+    match reply {
+        Reply::Answer(m) => answer(replies::front(&out, m)),
+        Reply::Told(m) => tell(replies::front(&out, m)),
+    }
+}
+
+fn judge_file(name: &[u8]) {
+    let fd = os::open_read(name);
+    if fd < 0 {
+        cannot_read(name);
+        return;
+    }
+    judge(fd, name);
+}
+
+fn help() {
+    answer(
+        b"judge [COMMAND] [FILE]\n\nsheet   judges a situation and prints its sheet; where no command is given, this one\nhelp    prints this text\n\nWithout a file, or where it is -, standard input is read. A file that has a command's name is written ./sheet.\n",
+    );
+}
+
+fn main() {
+    let mut first = io::buffer();
+    let mut second = io::buffer();
+    let count = os::arg_count();
+    let words = if count == 0 { 0 } else { count - 1 };
+    let n = os::arg(1, &mut first);
+    let m = os::arg(2, &mut second);
+    let asked = arguments::asked_by(words, &first[..n], &second[..m]);
+    match asked {
+        Asked::Unclear => tell(b"unclear words: judge help tells how judge is called\n"),
+        Asked::Run(command, source) => match command {
+            Command::Help => help(),
+            Command::Sheet => match source {
+                Source::StandardInput => judge(STDIN_FILENO, b"standard input"),
+                Source::FirstWord => judge_file(&first[..n]),
+                Source::SecondWord => judge_file(&second[..m]),
+            },
+        },
+    }
 }

@@ -32,7 +32,7 @@ pub begun-on : (k : Kind) (p : Progress) → begun (afterByte k p) ≤ begun p +
 begun-on Separator (Closed r) = omega arith
 begun-on Separator (Open n v) = go (isSmall v)
   where
-    go : (s : Bool) → fieldOf (cond s (Read (n + 1)) (TooLarge (n + 1))) ≤ n + 1 + 1
+    go : (s : Bool) → fieldOf (cond s (Read (n + 1)) (TooLarge n)) ≤ n + 1 + 1
     go true = omega arith
     go false = omega arith
 begun-on (Digit d) (Closed (Read n)) = omega arith

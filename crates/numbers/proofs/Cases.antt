@@ -6,12 +6,12 @@ use Rattle.lists.specs.Put.{fronted}
 use Rattle.numbers.specs.declared.Reading.the-variants.{Read, NotANumber, TooLarge}
 use Rattle.numbers.specs.Numbers.{pieces, nonEmpty, allDigits, valueFrom, numbersIn, readingFrom, numbersOf, readingOf, stored}
 
--- "" and " \n"
+-- "", and a blank, a tab, a line feed and a carriage return
 empty : readingOf [] ≡ Read 0
 unfolding pieces nonEmpty readingFrom
 empty = refl
 
-separators : readingOf (32 ∷ 10 ∷ []) ≡ Read 0
+separators : readingOf (32 ∷ 9 ∷ 10 ∷ 13 ∷ []) ≡ Read 0
 unfolding pieces nonEmpty readingFrom
 separators = refl
 
@@ -40,7 +40,7 @@ one-stored = refl
 unfoldable faulty : List ℕ
 faulty = 49 ∷ 32 ∷ 120 ∷ 32 ∷ 50 ∷ []
 
-fault-named : readingOf faulty ≡ NotANumber 2
+fault-named : readingOf faulty ≡ NotANumber 1
 unfolding faulty pieces nonEmpty allDigits valueFrom readingFrom
 fault-named = refl
 
@@ -48,18 +48,22 @@ before-fault : numbersOf faulty ≡ 1 ∷ []
 unfolding faulty pieces nonEmpty allDigits valueFrom numbersIn
 before-fault = refl
 
--- "-3", "1,2" and "1", a tab, "2"
-minus : readingOf (45 ∷ 51 ∷ []) ≡ NotANumber 1
+-- "-3", "1,2" and "1", a tab, "2"; "1", a vertical tab, "2"
+minus : readingOf (45 ∷ 51 ∷ []) ≡ NotANumber 0
 unfolding pieces nonEmpty allDigits valueFrom readingFrom
 minus = refl
 
-comma : readingOf (49 ∷ 44 ∷ 50 ∷ []) ≡ NotANumber 1
+comma : readingOf (49 ∷ 44 ∷ 50 ∷ []) ≡ NotANumber 0
 unfolding pieces nonEmpty allDigits valueFrom readingFrom
 comma = refl
 
-tab : readingOf (49 ∷ 9 ∷ 50 ∷ []) ≡ NotANumber 1
+tab : readingOf (49 ∷ 9 ∷ 50 ∷ []) ≡ Read 2
 unfolding pieces nonEmpty allDigits valueFrom readingFrom
 tab = refl
+
+vertical-tab : readingOf (49 ∷ 11 ∷ 50 ∷ []) ≡ NotANumber 0
+unfolding pieces nonEmpty allDigits valueFrom readingFrom
+vertical-tab = refl
 
 -- "429496729", the digits of 2^32 but the last one
 unfoldable most : List ℕ
@@ -71,12 +75,12 @@ unfolding most pieces nonEmpty allDigits valueFrom numbersIn
 largest = refl
 
 -- 4294967296
-past-largest : readingOf (most ++ (54 ∷ [])) ≡ TooLarge 1
+past-largest : readingOf (most ++ (54 ∷ [])) ≡ TooLarge 0
 unfolding most pieces nonEmpty allDigits valueFrom readingFrom
 past-largest = refl
 
 -- 4294967296a: a wrong byte counts before the size
-past-and-wrong : readingOf (most ++ (54 ∷ 97 ∷ [])) ≡ NotANumber 1
+past-and-wrong : readingOf (most ++ (54 ∷ 97 ∷ [])) ≡ NotANumber 0
 unfolding most pieces nonEmpty allDigits valueFrom readingFrom
 past-and-wrong = refl
 
@@ -85,6 +89,6 @@ unfoldable nines : ℕ → List ℕ
 nines zero = []
 nines (suc n) = 57 ∷ nines n
 
-thousand-digits : readingOf (nines 1000) ≡ TooLarge 1
+thousand-digits : readingOf (nines 1000) ≡ TooLarge 0
 unfolding nines pieces nonEmpty allDigits valueFrom readingFrom
 thousand-digits = refl

@@ -27,8 +27,8 @@ finished n fs buffer = (readingFrom n fs, sets buffer n (numbersIn fs))
 
 -- the outcome of a field and those after it, where the Bools tell whether it has only digits and whether its value v is small
 unfoldable pub met : Bool → Bool → ℕ → ℕ → List (List ℕ) → List ℕ → Outcome
-met false small n v fs buffer = (NotANumber (n + 1), buffer)
-met true false n v fs buffer = (TooLarge (n + 1), buffer)
+met false small n v fs buffer = (NotANumber n, buffer)
+met true false n v fs buffer = (TooLarge n, buffer)
 met true true n v fs buffer = finished (n + 1) fs (set buffer n v)
 
 -- the outcome of a reading and the fields after it
@@ -49,7 +49,7 @@ unfolding finished met readingFrom numbersIn
 finished-field n f fs buffer = go (allDigits f) (isSmall (valueOf f))
   where
     go : (d s : Bool)
-        → _≡_ {A = Outcome} (judged d s (n + 1) (readingFrom (n + 1) fs), sets buffer n (thenMore (d && s) (valueOf f) (numbersIn fs))) (met d s n (valueOf f) fs buffer)
+        → _≡_ {A = Outcome} (judged d s n (readingFrom (n + 1) fs), sets buffer n (thenMore (d && s) (valueOf f) (numbersIn fs))) (met d s n (valueOf f) fs buffer)
     go false s = refl
     go true false = refl
     go true true = ap (λ (k : ℕ). (readingFrom (n + 1) fs, sets (set buffer n (valueOf f)) k (numbersIn fs))) (sym (add-one n))
@@ -89,7 +89,7 @@ unfolding continued nonEmpty allDigits valueFrom
 separator-on (Closed r) ps buffer = refl
 separator-on (Open n v) ps buffer = go (isSmall v)
   where
-    go : (s : Bool) → met true s n v (nonEmpty ps) buffer ≡ resumed (cond s (Read (n + 1)) (TooLarge (n + 1))) (nonEmpty ps) (putIf s buffer n v)
+    go : (s : Bool) → met true s n v (nonEmpty ps) buffer ≡ resumed (cond s (Read (n + 1)) (TooLarge n)) (nonEmpty ps) (putIf s buffer n v)
     go true = unfold met resumed in refl
     go false = unfold met resumed in refl
 
@@ -112,7 +112,7 @@ digit-on b e (Closed (TooLarge k)) ps buffer = unfold continued resumed in refl
 digit-on b e (Open n v) ps buffer = digit-more b e n v ps buffer ∙ held-same n v (b - 48) ps buffer
 
 -- any other byte spoils it
-other-more : (b : ℕ) → isDigit b ≡ false → (n v : ℕ) (ps : List (List ℕ)) (buffer : List ℕ) → continued (Open n v) (onFirst b ps) buffer ≡ continued (Closed (NotANumber (n + 1))) ps buffer
+other-more : (b : ℕ) → isDigit b ≡ false → (n v : ℕ) (ps : List (List ℕ)) (buffer : List ℕ) → continued (Open n v) (onFirst b ps) buffer ≡ continued (Closed (NotANumber n)) ps buffer
 unfolding continued resumed met allDigits
 other-more b e n v [] buffer = simp e
 other-more b e n v (p ∷ ps) buffer = simp e

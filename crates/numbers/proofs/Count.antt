@@ -1,23 +1,24 @@
--- Where every field is a number, the count of the reading is that of the numbers: for a caller that looks at the list. Assumes nothing.
-use mathlib.Core.Path.{_≡_}
+-- The count of a reading is that of the numbers, all of them or those before the fault: for a caller that looks at the list. Assumes nothing.
+use mathlib.Core.Path.{_≡_, sym, ap, _∙_}
 use mathlib.Core.Bool.{Bool, true, false, _&&_}
 use mathlib.Core.List.{List, [], _∷_}
 use Prim.Native.Nat.{ℕ, _+_}
 use native.Mathlib.Omega.{arith}
 use lib.ListN.{length}
-use Rattle.numbers.specs.declared.Reading.the-variants.{Read}
-use Rattle.numbers.specs.Numbers.{isSmall, allDigits, valueOf, thenMore, judged, numbersIn, readingFrom, numbersOf, readingOf}
+use Rattle.numbers.specs.declared.Reading.{Reading}
+use Rattle.numbers.specs.Numbers.{isSmall, allDigits, valueOf, thenMore, judged, numbersIn, readingFrom, fields, numbersOf, readingOf}
+use Rattle.numbers.specs.Walk.{fieldOf}
 
-count-from : (fs : List (List ℕ)) (k n : ℕ) → readingFrom k fs ≡ Read n → n ≡ k + length (numbersIn fs)
+count-from : (fs : List (List ℕ)) (k : ℕ) → fieldOf (readingFrom k fs) ≡ k + length (numbersIn fs)
 unfolding readingFrom numbersIn
-count-from [] k n e = let same : k ≡ n = cc in omega arith
-count-from (f ∷ fs) k n e = go (allDigits f) (isSmall (valueOf f)) (count-from fs (k + 1) n) e
+count-from [] k = omega arith
+count-from (f ∷ fs) k = go (allDigits f) (isSmall (valueOf f)) (count-from fs (k + 1))
   where
-    go : (d s : Bool) → (readingFrom (k + 1) fs ≡ Read n → n ≡ k + 1 + length (numbersIn fs))
-        → judged d s (k + 1) (readingFrom (k + 1) fs) ≡ Read n → n ≡ k + length (thenMore (d && s) (valueOf f) (numbersIn fs))
-    go false s more e = let z : _≡_ {A = ℕ} 0 1 = cc in absurd (omega arith)
-    go true false more e = let z : _≡_ {A = ℕ} 0 1 = cc in absurd (omega arith)
-    go true true more e = omega (arith, more e)
+    go : (d s : Bool) → fieldOf (readingFrom (k + 1) fs) ≡ k + 1 + length (numbersIn fs)
+        → fieldOf (judged d s k (readingFrom (k + 1) fs)) ≡ k + length (thenMore (d && s) (valueOf f) (numbersIn fs))
+    go false s more = omega arith
+    go true false more = omega arith
+    go true true more = omega arith
 
-pub read-count : (text : List ℕ) (n : ℕ) → readingOf text ≡ Read n → length (numbersOf text) ≡ n
-read-count text n e = omega (arith, count-from _ 0 n e)
+pub read-count : (text : List ℕ) (r : Reading) → readingOf text ≡ r → length (numbersOf text) ≡ fieldOf r
+read-count text r e = let all = count-from (fields text) 0 in let same : fieldOf (readingOf text) ≡ fieldOf r = ap fieldOf e in omega arith

@@ -1,4 +1,4 @@
--- Decimal numbers in a text of bytes, with blanks and line feeds between them. Definitions only.
+-- Decimal numbers in a text of bytes, with blanks, tabs, line feeds or carriage returns between them. Definitions only.
 use mathlib.Core.Bool.{Bool, true, false, _&&_, _||_}
 use mathlib.Core.List.{List, [], _∷_}
 use Prim.Native.Nat.{ℕ, _+_, _-_, _*_}
@@ -9,9 +9,9 @@ use Rattle.numbers.specs.declared.Reading.{Reading}
 use Rattle.numbers.specs.declared.Reading.the-variants.{Read, NotANumber, TooLarge}
 
 -- ---- fields
--- a blank or a line feed
+-- a blank, a tab, a line feed or a carriage return
 abbrev pub isSeparator : ℕ → Bool
-isSeparator b = eqb b 32 || eqb b 10
+isSeparator b = eqb b 32 || eqb b 9 || eqb b 10 || eqb b 13
 
 -- the byte b in front of the first piece
 abbrev pub onFirst : ℕ → List (List ℕ) → List (List ℕ)
@@ -76,16 +76,16 @@ unfoldable pub numbersIn : List (List ℕ) → List ℕ
 numbersIn [] = []
 numbersIn (f ∷ fs) = thenMore (isNumber f) (valueOf f) (numbersIn fs)
 
--- the reading at the k-th field: a fault where not all of it is digits, or its value is not small, else that of the later fields
+-- the reading at the field k, counted from 0: a fault where not all of it is digits, or its value is not small, else that of the later fields
 abbrev pub judged : Bool → Bool → ℕ → Reading → Reading
 judged false small k later = NotANumber k
 judged true false k later = TooLarge k
 judged true true k later = later
 
--- the reading of fields that follow n numbers: how many numbers there are in all, or which field, counted from 1, is the first that is none
+-- the reading of fields that follow n numbers: how many numbers there are in all, or which field, counted from 0, is the first that is none
 unfoldable pub readingFrom : ℕ → List (List ℕ) → Reading
 readingFrom n [] = Read n
-readingFrom n (f ∷ fs) = judged (allDigits f) (isSmall (valueOf f)) (n + 1) (readingFrom (n + 1) fs)
+readingFrom n (f ∷ fs) = judged (allDigits f) (isSmall (valueOf f)) n (readingFrom (n + 1) fs)
 
 -- the numbers of a text, up to the first field that is none
 abbrev pub numbersOf : List ℕ → List ℕ

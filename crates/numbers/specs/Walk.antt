@@ -26,7 +26,7 @@ withDigit v d = cond (isSmall (10 * v + d)) (10 * v + d) 4294967296
 -- the reading where the field ends here
 abbrev pub ended : Progress → Reading
 ended (Closed r) = r
-ended (Open n v) = cond (isSmall v) (Read (n + 1)) (TooLarge (n + 1))
+ended (Open n v) = cond (isSmall v) (Read (n + 1)) (TooLarge n)
 
 -- and the buffer
 abbrev pub storedAtEnd : Progress → List ℕ → List ℕ
@@ -42,10 +42,10 @@ afterDigit (Open n v) d = Open n (withDigit v d)
 
 -- after a byte that is neither a digit nor a separator: a fault of this field or of the next, unless there was one
 abbrev pub afterOther : Progress → Reading
-afterOther (Closed (Read n)) = NotANumber (n + 1)
+afterOther (Closed (Read n)) = NotANumber n
 afterOther (Closed (NotANumber k)) = NotANumber k
 afterOther (Closed (TooLarge k)) = TooLarge k
-afterOther (Open n v) = NotANumber (n + 1)
+afterOther (Open n v) = NotANumber n
 
 -- after a byte
 abbrev pub afterByte : Kind → Progress → Progress
@@ -60,7 +60,7 @@ storedByByte (Digit d) p buffer = buffer
 storedByByte Other p buffer = buffer
 
 -- ---- bounds
--- the field that a reading names
+-- how many numbers a reading has, or how many come before its fault
 abbrev pub fieldOf : Reading → ℕ
 fieldOf (Read n) = n
 fieldOf (NotANumber k) = k

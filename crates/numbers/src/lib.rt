@@ -1,10 +1,10 @@
-// Decimal numbers from a text, separated by blanks or line feeds.
+// Decimal numbers from a text, separated by blanks, tabs, line feeds or carriage returns.
 ghost use mathlib.Core.Path.{_≡_};
 ghost use Prim.Native.Nat.{_<_, _≤_};
 ghost use Rattle.numbers.specs.Numbers as Spec;
 ghost use Rattle.numbers.specs.Walk as Walk;
 
-// How many numbers a text has, or which of its fields, counted from 1, is the first that is none: it has a byte that is no digit, or its value is 2^32 or more.
+// How many numbers a text has, or which of its fields, counted from 0, is the first that is none: it has a byte that is no digit, or its value is 2^32 or more.
 pub enum Reading {
     Read(usize),
     NotANumber(usize),
@@ -28,7 +28,7 @@ fn end_field(progress: Progress, numbers: &mut [u32]) -> Reading
         Progress::Closed(reading) => reading,
         Progress::Open(n, v) => {
             if v > 4294967295 {
-                return Reading::TooLarge(n + 1);
+                return Reading::TooLarge(n);
             }
             if n < numbers.len() {
                 numbers[n] = v as u32;
@@ -44,7 +44,7 @@ fn after_byte(progress: Progress, b: u8, numbers: &mut [u32]) -> Progress
     ensures { λ r. ⌜ r ≡ Walk.afterByte (Walk.kindOf b) progress ⌝ }
     ensures { λ r. ⌜ now (numbers .exit) ≡ Walk.storedByByte (Walk.kindOf b) progress (now (numbers .entry)) ⌝ }
 {
-    if (b == 32) | (b == 10) {
+    if (b == 32) | (b == 9) | (b == 10) | (b == 13) {
         return Progress::Closed(end_field(progress, numbers));
     }
     let is_digit = (b >= 48) & (b <= 57);
@@ -54,7 +54,7 @@ fn after_byte(progress: Progress, b: u8, numbers: &mut [u32]) -> Progress
                 if is_digit {
                     return Progress::Open(n, (b - 48) as u64);
                 }
-                Progress::Closed(Reading::NotANumber(n + 1))
+                Progress::Closed(Reading::NotANumber(n))
             }
             _ => progress,
         },
@@ -66,7 +66,7 @@ fn after_byte(progress: Progress, b: u8, numbers: &mut [u32]) -> Progress
                 }
                 return Progress::Open(n, w);
             }
-            Progress::Closed(Reading::NotANumber(n + 1))
+            Progress::Closed(Reading::NotANumber(n))
         }
     }
 }

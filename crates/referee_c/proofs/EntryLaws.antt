@@ -1,21 +1,59 @@
 -- What the entries' definitions give in each case that the code tells apart. Assumes nothing.
-use mathlib.Core.Path.{_≡_, ap, sym, _∙_}
-use mathlib.Core.Bool.{Bool, true, false, cond}
+use mathlib.Core.Path.{_≡_, refl, ap, sym, _∙_}
+use mathlib.Core.Bool.{Bool, true, false, _&&_, cond, true≢false}
 use mathlib.Core.List.{List}
-use Prim.Native.Nat.{ℕ, _≤_}
+use Prim.Native.Nat.{ℕ, _+_, _≤_}
 use native.Mathlib.Omega.{arith}
 use borrow.Author.Tests.{eq-eqb, ne-eqb}
 use lib.Ieee.{Float}
-use lib.IntN.{pos}
+use lib.Dec.{eqb}
+use lib.IntN.{ℤ, pos}
 use lib.ListN.{length, drop, length-append}
 use Rattle.lists.specs.Put.{fronted}
 use Rattle.game.specs.declared.Situation.{Situation}
 use Rattle.candidates.specs.Candidates.{refusalOf, answerOf}
-use Rattle.columns.specs.Columns.{isSituation}
+use Rattle.columns.specs.Layout.{wordCount}
+use Rattle.columns.specs.Columns.{wordsWithin, isSituation}
 use Rattle.words.specs.Words.{situationOf}
 use Rattle.call.specs.Call.{sheetAnswer, sheetAfter}
 use Rattle.sheet.specs.declared.text.SheetAnswer.{SheetAnswer}
-use Rattle.referee_c.specs.Entries.{minus, answerNumber, sheetNumber, sheetBytes, candidatesNumber}
+use Rattle.referee_c.specs.Entries.{minus, checkNumber, answerNumber, sheetNumber, sheetBytes, candidatesNumber}
+
+-- ---- whether words are a situation, by the two tests: their number, and how many are within
+abbrev checked : Bool → Bool → ℕ → ℤ
+checked long all n = cond long (pos (cond all 0 (n + 1))) (minus 100)
+
+module _ (ws : List ℕ) where
+  pub other-length : (length ws ≡ wordCount → ⊥) → minus 100 ≡ checkNumber ws
+  unfolding checkNumber
+  other-length h = simp (ne-eqb (length ws) wordCount h)
+
+  pub none-outside : length ws ≡ wordCount → wordsWithin ws ≡ wordCount → pos 0 ≡ checkNumber ws
+  unfolding checkNumber
+  none-outside l w = simp (eq-eqb (length ws) wordCount l, eq-eqb (wordsWithin ws) wordCount w)
+
+  pub first-outside : length ws ≡ wordCount → (wordsWithin ws ≡ wordCount → ⊥) → pos (wordsWithin ws + 1) ≡ checkNumber ws
+  unfolding checkNumber
+  first-outside l h = simp (eq-eqb (length ws) wordCount l, ne-eqb (wordsWithin ws) wordCount h)
+
+  -- 0 is answered for a situation, and for nothing else
+  pub situation-checked : isSituation ws ≡ true → checkNumber ws ≡ pos 0
+  unfolding checkNumber isSituation
+  situation-checked = go (eqb (length ws) wordCount) (eqb (wordsWithin ws) wordCount)
+    where
+      go : (long all : Bool) → (long && all) ≡ true → checked long all (wordsWithin ws) ≡ pos 0
+      go true true e = refl
+      go true false e = absurd (true≢false (sym e))
+      go false all e = absurd (true≢false (sym e))
+
+  pub checked-situation : checkNumber ws ≡ pos 0 → isSituation ws ≡ true
+  unfolding checkNumber isSituation
+  checked-situation = go (eqb (length ws) wordCount) (eqb (wordsWithin ws) wordCount)
+    where
+      go : (long all : Bool) → checked long all (wordsWithin ws) ≡ pos 0 → (long && all) ≡ true
+      go true true e = refl
+      go true false e = let z : wordsWithin ws + 1 ≡ 0 = cc in absurd (omega arith)
+      go false all e = let z : _≡_ {A = ℕ} 0 1 = cc in absurd (omega arith)
 
 module _ (ws : List ℕ) (xs ys : List Float) (sheet : List ℕ) where
   -- the words are no situation

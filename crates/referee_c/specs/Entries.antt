@@ -1,13 +1,15 @@
 -- What the C entries answer: a refusal n as -n, and -100 for words that are no situation. Definitions only.
+-- They are of IEEE 754's default float mode, the only one that the language has, so that -101, the answer in another one, is not here.
 use mathlib.Core.Bool.{cond}
 use mathlib.Core.List.{List}
-use Prim.Native.Nat.{ℕ}
+use Prim.Native.Nat.{ℕ, _+_}
 use lib.Dec.{eqb}
 use lib.Ieee.{Float}
 use lib.IntN.{ℤ, pos, negℤ}
 use lib.ListN.{length}
 use Rattle.candidates.specs.Candidates.{refusalOf, answerOf}
-use Rattle.columns.specs.Columns.{isSituation}
+use Rattle.columns.specs.Layout.{wordCount}
+use Rattle.columns.specs.Columns.{wordsWithin, isSituation}
 use Rattle.words.specs.Words.{situationOf}
 use Rattle.call.specs.Call.{sheetAnswer, sheetAfter}
 use Rattle.sheet.specs.declared.text.SheetAnswer.{SheetAnswer}
@@ -16,6 +18,10 @@ use Rattle.sheet.specs.declared.text.SheetAnswer.the-variants.{Refused, Written
 -- -n
 abbrev pub minus : ℕ → ℤ
 minus n = negℤ (pos n)
+
+-- of words: 0 where all are within their columns, otherwise the first that is not, counted from 1; -100 for another number of words
+unfoldable pub checkNumber : List ℕ → ℤ
+checkNumber ws = cond (eqb (length ws) wordCount) (pos (cond (eqb (wordsWithin ws) wordCount) 0 (wordsWithin ws + 1))) (minus 100)
 
 -- of the sheet's answer
 abbrev pub answerNumber : SheetAnswer → ℤ

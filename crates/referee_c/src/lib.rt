@@ -1,4 +1,8 @@
 // The entries for programs in C and other languages. A slice passes as a pointer and then a length.
+//
+// A caller may have set another float mode than IEEE 754's default, in which the compiled operations are not those of the contracts. So an entry that computes with
+// floats and answers an i64 first asks for the mode, and answers -101 in a wrong one. The seed is a slice's length, and it is asked for before any test of that length:
+// past such a test the compiler knows it and works the answer out. In the language there is only the default, so that no contract has -101 in it.
 ghost use mathlib.Core.Path.{_≡_};
 ghost use Prim.Native.Nat.{_<_};
 ghost use lib.ListN.{length};
@@ -9,6 +13,7 @@ ghost use Rattle.geometry.specs.Geometry.{normalizeAngle};
 ghost use Rattle.candidates.specs.Candidates.{answerOf};
 ghost use Rattle.sheet.specs.Sheet.{bytesIn};
 ghost use Rattle.referee_c.specs.Entries as Spec;
+use columns::layout::WORDS;
 use sheet::SheetAnswer;
 
 // A refusal as its number below 0.
@@ -29,6 +34,21 @@ fn answer_number(answer: SheetAnswer) -> i64
     }
 }
 
+// Whether the words are a situation: 0, or the first word outside its column, counted from 1; -100 for another number of words. No floats are computed with.
+#[no_mangle]
+pub extern "C" fn referee_check(words: &[u32]) -> i64
+    ensures { λ r. ⌜ r ≡ Spec.checkNumber (now (words .entry)) ⌝ }
+{
+    if words.len() == WORDS {
+        let n = columns::words_within(words);
+        if n == WORDS {
+            return 0;
+        }
+        return (n + 1) as i64;
+    }
+    minus(100)
+}
+
 // Decides on the situation that the words are and writes its sheet at the front of the lent bytes. Answers the number of bytes written, or a refusal.
 #[no_mangle]
 pub extern "C" fn referee_sheet<'a>(
@@ -40,6 +60,9 @@ pub extern "C" fn referee_sheet<'a>(
     ensures { λ r. ⌜ r ≡ Spec.sheetNumber (now (words .entry)) (now (xs .entry)) (now (ys .entry)) (length (now (sheet .entry))) ⌝ }
     ensures { λ _. ⌜ now (sheet .exit) ≡ Spec.sheetBytes (now (words .entry)) (now (xs .entry)) (now (ys .entry)) (now (sheet .entry)) ⌝ }
 {
+    if !mode::is_ieee_mode(words.len()) {
+        return minus(101);
+    }
     if columns::is_situation(words) {
         let s = words::situation_of(words);
         let answer = call::write_sheet(s, xs, ys, sheet);
@@ -60,6 +83,9 @@ pub extern "C" fn referee_candidates(
     ensures { λ r. ⌜ r ≡ Spec.candidatesNumber start min max step (length (now (list .entry))) ⌝ }
     ensures { λ _. ⌜ now (list .exit) ≡ fronted (answerOf start min max step (length (now (list .entry)))) (now (list .entry)) ⌝ }
 {
+    if !mode::is_ieee_mode(list.len()) {
+        return minus(101);
+    }
     let len = list.len();
     let n = candidates::fill_candidates(start, min, max, step, list);
     if n == 0 {

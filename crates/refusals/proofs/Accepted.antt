@@ -1,4 +1,4 @@
--- What it says of a situation that it is not refused: each condition holds, and with it the ranges. Assumes nothing.
+-- What it says of a situation that it is not refused: each requirement holds, and with it the ranges. Assumes nothing.
 use mathlib.Core.Path.{_≡_, refl}
 use mathlib.Core.Bool.{true, _&&_}
 use mathlib.Core.List.{List}
@@ -17,9 +17,9 @@ use Rattle.game.specs.declared.Side.{Side}
 use Rattle.game.specs.declared.Side.the-variants.{Home, Away}
 use Rattle.game.specs.declared.Situation.{Situation}
 use Rattle.game.specs.declared.Team.{Team}
-use Rattle.refusals.specs.Refusals.{within, isSize, isCoordinate, isPlayerNumber, seenFits, referenceFits, playerFits, teamFits, posesFit, listsFit, fieldFits, ballFits, numbersFit, wishFits, restartFits, numberFits, distanceFits, five, conditionsOf, refusalOf}
+use Rattle.refusals.specs.Refusals.{within, isSize, isCoordinate, isPlayerNumber, seenFits, referenceFits, playerFits, teamFits, posesFit, listsFit, fieldFits, ballFits, numbersFit, wishFits, restartFits, numberFits, distanceFits, five, requirementsOf, refusalOf}
 
--- ---- the five conditions
+-- ---- the five requirements
 pub record Accepted (s : Situation) (xs ys : List Float) : Type 0 where
   pub field-fits : fieldFits (s .field) ≡ true
   pub poses-fit : posesFit (s .home) (s .away) xs ys ≡ true
@@ -28,7 +28,7 @@ pub record Accepted (s : Situation) (xs ys : List Float) : Type 0 where
   pub distance-fits : distanceFits (s .«penalty_placement_distance») ≡ true
 
 pub accepted : (s : Situation) (xs ys : List Float) → refusalOf s xs ys ≡ 0 → Accepted s xs ys
-unfolding refusalOf conditionsOf
+unfolding refusalOf requirementsOf
 accepted s xs ys e =
     let one = both-true (fieldFits (s .field)) _ (all-hold (five (fieldFits (s .field)) (posesFit (s .home) (s .away) xs ys) (ballFits (s .ball)) (numbersFit (s .home .goalkeeper) (s .away .goalkeeper) (s .restart) (s .wish)) (distanceFits (s .«penalty_placement_distance»))) refl e) in
     let two = both-true (posesFit (s .home) (s .away) xs ys) _ (one .1) in

@@ -1,4 +1,4 @@
--- What is refused: conditions 1 to 5 of document 01's table, in their order. Definitions only.
+-- What is refused: requirements 1 to 5 of document 01's table, in their order. Definitions only.
 use mathlib.Core.Bool.{Bool, true, _&&_, _||_}
 use mathlib.Core.List.{List, [], _∷_}
 use Prim.Native.Nat.{ℕ}
@@ -6,7 +6,7 @@ use lib.Dec.{leb, eqb}
 use lib.ListN.{length, getD}
 use lib.Ieee.{Float, nan, neg, lt, le}
 use Rattle.lists.specs.Every.{everyTo}
-use Rattle.lists.specs.Refusals.{Condition, firstRefusal}
+use Rattle.lists.specs.Refusals.{Requirement, firstRefusal}
 use Rattle.floats.specs.Arithmetic.{zero32, sixtyFourth, one, four, sixtyFour}
 use Rattle.game.specs.Players.{playerAt, minNumber, maxNumber}
 use Rattle.game.specs.declared.FieldDimensions.{FieldDimensions}
@@ -129,7 +129,7 @@ distanceFits d = le d zero32 || le sixtyFourth d
 
 -- ---- the table
 -- what must hold, in the order of the numbers, so that the lowest wins
-abbrev pub five : Bool → Bool → Bool → Bool → Bool → List Condition
+abbrev pub five : Bool → Bool → Bool → Bool → Bool → List Requirement
 five field poses ball numbers distance =
     record { holds = field; number = 1 }
     ∷ record { holds = poses; number = 2 }
@@ -139,9 +139,9 @@ five field poses ball numbers distance =
     ∷ []
 
 -- of a situation and the earlier places of the batch
-unfoldable pub conditionsOf : Situation → List Float → List Float → List Condition
+unfoldable pub requirementsOf : Situation → List Float → List Float → List Requirement
 unfolding fieldFits posesFit numbersFit
-conditionsOf s xs ys =
+requirementsOf s xs ys =
     five
     (fieldFits (s .field))
     (posesFit (s .home) (s .away) xs ys)
@@ -151,5 +151,5 @@ conditionsOf s xs ys =
 
 -- the number of the refusal, or 0 for none
 unfoldable pub refusalOf : Situation → List Float → List Float → ℕ
-unfolding conditionsOf
-refusalOf s xs ys = firstRefusal (conditionsOf s xs ys)
+unfolding requirementsOf
+refusalOf s xs ys = firstRefusal (requirementsOf s xs ys)

@@ -8,7 +8,7 @@ use native.Mathlib.Omega.{arith}
 use borrow.Author.Tests.{lt-ltb, le-ltb, leb-true, leb-false}
 use lib.Dec.{ltb, leb, lit<}
 use Rattle.io.specs.Digits.{glyph, digits, Fewest}
-use Rattle.replies.specs.Replies.{grown, decimalFrom, decimalOf}
+use Rattle.replies.specs.Decimal.{grown, decimalFrom, decimalOf}
 
 -- a digit below 10
 glyph-of : (n : ℕ) → glyph (n % 10) ≡ 48 + n % 10

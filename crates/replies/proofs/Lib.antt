@@ -1,3 +1,5 @@
 mod Decimal
 pub mod Pieces
+mod Texts
+pub mod Places
 mod Cases

@@ -5,7 +5,7 @@ use Prim.Native.Nat.{ℕ}
 use lib.Dec.{eqb, leb}
 use lib.ListN.{length}
 use Rattle.lists.specs.Put.{frontedInto}
-use Rattle.lists.specs.Refusals.{Condition, firstRefusal}
+use Rattle.lists.specs.Refusals.{Requirement, firstRefusal}
 use Rattle.game.specs.declared.Decision.{Decision}
 use Rattle.lines.specs.Line.{linesOf}
 use Rattle.sheet.specs.Rows.{sheetRows}
@@ -26,7 +26,7 @@ unfoldable pub textOf : Decision → List ℕ
 textOf d = linesOf (sheetRows d)
 
 -- 7: the lent bytes are too few for the text
-abbrev pub roomFor : Decision → ℕ → Condition
+abbrev pub roomFor : Decision → ℕ → Requirement
 roomFor d lent = record { holds = leb (length (textOf d)) lent; number = 7 }
 
 -- 7, or the length of the text

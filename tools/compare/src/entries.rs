@@ -1,4 +1,4 @@
-//! The comparison of the other entries: candidates and leaves.
+//! The comparison of the other entries: whether words are a situation, candidates and leaves.
 
 use crate::generate::{moved, near_halfway};
 use crate::random::Random;
@@ -38,6 +38,63 @@ fn call(arguments: [f32; 4], room: usize, number: i64, list: &[f32]) -> bool {
                 x.to_bits() == filler(i)
             }
         })
+}
+
+/// The greatest value of a situation's word, read off the table of docs/WORDS.md and not from the layout that the table is made from.
+fn greatest(i: usize) -> u32 {
+    match i {
+        63..=462 if (i - 63) % 5 == 0 => 1,
+        0..=14 | 63..=502 | 543..=545 | 552..=553 => u32::MAX,
+        15..=16 | 503..=542 | 547 | 550 | 554..=559 | 561 => 1,
+        20 | 546 => 2,
+        548 => 3,
+        17 => 4,
+        18 | 560 => 5,
+        19 | 549 => 7,
+        23..=62 => 13,
+        562 => 255,
+        21..=22 | 551 => 256,
+        _ => panic!("a situation has 563 words"),
+    }
+}
+
+/// Words within their columns, of which up to three are moved: the first outside, and that the sheet is refused with -100 exactly where one is.
+pub fn compare_check(count: u64, seed: u64) -> bool {
+    let mut random = Random::new(seed);
+    let (mut differences, mut outside, mut other_lengths) = (0u64, 0u64, 0u64);
+    for _ in 0..count {
+        let within = |random: &mut Random, i| match random.within(0, 3) {
+            0 => greatest(i),
+            1 => 0,
+            _ => (u64::from(random.u32()) % (u64::from(greatest(i)) + 1)) as u32,
+        };
+        let mut words: Vec<u32> = (0..563).map(|i| within(&mut random, i)).collect();
+        for _ in 0..random.within(0, 3) {
+            let i = random.within(0, 562) as usize;
+            let past = greatest(i).wrapping_add(1);
+            words[i] = random.pick(&[past, past | 1 << 16, u32::MAX, 1 << 31, greatest(i)]);
+        }
+        if random.within(0, 9) == 0 {
+            words.resize(random.within(0, 1126) as usize, 0);
+        }
+        let expected = match (words.len(), words.iter().enumerate().position(|(i, &word)| i < 563 && word > greatest(i))) {
+            (563, Some(i)) => i as i64 + 1,
+            (563, None) => 0,
+            _ => -100,
+        };
+        outside += u64::from(expected > 0);
+        other_lengths += u64::from(expected < 0);
+        let told = library::check(&words);
+        let sheet = library::sheet(&words, &[], &[], &mut []);
+        if told != expected || (sheet == -100) != (expected != 0) {
+            differences += 1;
+            if differences <= 3 {
+                println!("DIFFERENCE: {} words, referee_check {told}, referee_sheet {sheet}, not {expected}", words.len());
+            }
+        }
+    }
+    println!("words: {count} lists, {outside} with a word outside its column, {other_lengths} of another length: {differences} differences");
+    differences == 0
 }
 
 const SPECIAL: [f32; 14] = [

@@ -11,6 +11,7 @@ unsafe extern "C" {
         sheet: *mut u8,
         sheet_len: usize,
     ) -> i64;
+    fn referee_check(words: *const u32, words_len: usize) -> i64;
     fn referee_candidates(start: f32, min: f32, max: f32, step: f32, list: *mut f32, list_len: usize) -> i64;
     fn referee_hypot(x: f32, y: f32) -> f32;
     fn referee_normalize_angle(angle: f32) -> f32;
@@ -44,6 +45,11 @@ pub fn candidates_fresh(start: f32, min: f32, max: f32, step: f32, lent: &mut Ve
         lent.set_len(usize::try_from(n).unwrap_or(0));
         n
     }
+}
+
+pub fn check(words: &[u32]) -> i64 {
+    // SAFETY: as above.
+    unsafe { referee_check(words.as_ptr(), words.len()) }
 }
 
 pub fn candidates(start: f32, min: f32, max: f32, step: f32, list: &mut [f32]) -> i64 {

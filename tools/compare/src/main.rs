@@ -43,6 +43,7 @@ use std::process::exit;
 
 const USAGE: &str = "\
 compare [COUNT] [SEED]             compares COUNT situations (100000) of the seed (1)
+compare check [COUNT] [SEED]       compares referee_check
 compare candidates [COUNT] [SEED]  compares referee_candidates
 compare leaves [COUNT] [SEED]      compares the leaves
 compare motion                     tries every distance at which motion could turn on std's hypot
@@ -68,6 +69,7 @@ fn main() {
     };
     let passed = match command.as_str() {
         "" => compare::run(number(0, 100_000), number(1, 1)),
+        "check" => entries::compare_check(number(0, 1_000_000), number(1, 1)),
         "candidates" => entries::compare_candidates(number(0, 100_000), number(1, 1)),
         "leaves" => entries::compare_leaves(number(0, 1_000_000), number(1, 1)),
         "motion" => entries::compare_motion(),

@@ -7,8 +7,8 @@ use Rattle.input.specs.Input.{mostPlaces, firstX, firstY}
 use Rattle.floats.specs.Arithmetic.{zero32}
 use native.Mathlib.Omega.{arith}
 use lib.Seq.{length-take-le}
-use Rattle.desk.specs.Desk.{numbersText}
-use Rattle.desk.proofs.Judged.{places-told, told-as, text-same}
+use Rattle.desk.specs.Desk.{numbersPrinted}
+use Rattle.desk.proofs.Judged.{places-told, prints-as, printed-same}
 use borrow.Author.Needs.{needs}
 use Rattle.desk.proofs.judge_numbers.Statement.{statement}
 use Rattle.desk.proofs.judge_numbers.Tie as tie
@@ -80,7 +80,7 @@ same-length : tie.Need-same-length
 same-length c = search needs
 
 returns : tie.Need-returns
-unfolding numbersText
+unfolding numbersPrinted
 returns c =
     let known = c .before .before .before .before .before .before in
     let after-y = known .before .before .before in
@@ -95,7 +95,7 @@ returns c =
     let same-y : firstY + a .nx + a .ny - (firstY + a .nx) ≡ a .ny = omega arith in
     let xs = places-told ns firstX (a .nx) (firstX + a .nx - firstX) (replicate mostPlaces zero32) _ same (first .ensures) (s .pre .0) (omega (arith, s .pre .2)) in
     let ys = places-told ns (firstY + a .nx) (a .ny) (firstY + a .nx + a .ny - (firstY + a .nx)) (replicate mostPlaces zero32) _ same-y (second .ensures) (s .pre .1) (omega (arith, s .pre .2)) in
-    told-as _ _ (now (a .out)) _ (call .result) (text-same _ _ _ _ _ _ _ (known .situation-of .ensures) xs ys) (call .ensures)
+    prints-as _ _ (now (a .out)) _ (call .result) (printed-same _ _ _ _ _ _ _ (known .situation-of .ensures) xs ys) (call .ensures)
 
 pub judge-numbers-spec : {M : Type 1} → statement M
 judge-numbers-spec =

@@ -1,8 +1,9 @@
 -- The refusal's line stands where the sheet would; a sheet stays as it was written.
 use denote.Ref.{now}
-use mathlib.Core.Path.{refl, sym, _∙_}
+use mathlib.Core.Path.{refl, sym, ap, _∙_}
 use Rattle.sheet.specs.declared.text.SheetAnswer.the-variants.{Refused, Written}
-use Rattle.desk.proofs.Judged.{reply-told}
+use Rattle.desk.specs.declared.Reply.the-variants.{Told}
+use Rattle.desk.proofs.Judged.{reply-printed}
 use borrow.Author.Needs.{needs}
 use Rattle.desk.proofs.judge_situation.Statement.{statement}
 use Rattle.desk.proofs.judge_situation.Tie as tie
@@ -29,7 +30,7 @@ returns c =
     let a = written .before .before .before .before .before .args in
     let first = written .write-sheet in
     let line = c .before .before .refused-line in
-    reply-told (a .s) (now (a .xs)) (now (a .ys)) (now (a .out)) (Refused _) _ _ _ (sym (known .answer .given .1) ∙ first .ensures .0) (first .ensures .1) (line .ensures .0) (line .ensures .1)
+    reply-printed (a .s) (now (a .xs)) (now (a .ys)) (now (a .out)) (Refused _) _ _ _ (sym (known .answer .given .1) ∙ first .ensures .0) (first .ensures .1) (ap Told (line .ensures .0)) (line .ensures .1)
 
 same-length-2 : tie.Need-same-length-2
 same-length-2 c = search needs
@@ -40,7 +41,7 @@ returns-2 c =
     let written = known .before .before .before .before in
     let a = written .before .before .before .before .before .args in
     let first = written .write-sheet in
-    reply-told (a .s) (now (a .xs)) (now (a .ys)) (now (a .out)) (Written _) _ _ _ (sym (known .answer2 .given .1) ∙ first .ensures .0) (first .ensures .1) refl refl
+    reply-printed (a .s) (now (a .xs)) (now (a .ys)) (now (a .out)) (Written _) _ _ _ (sym (known .answer2 .given .1) ∙ first .ensures .0) (first .ensures .1) refl refl
 
 pub judge-situation-spec : {M : Type 1} → statement M
 judge-situation-spec =

@@ -28,9 +28,6 @@ slice-aggregate-words-within c = sym (length-take-le _ _ (omega (arith, c .befor
 words-within-requires : tie.Need-words-within-requires
 words-within-requires c κs = search needs
 
-add-t12 : tie.Need-add-t12
-add-t12 c = search needs
-
 -- the words that are there and within
 counted : (c : tie.After-words-within) → (let a = c .before .before .before .before .args in c .words-within .result ≡ wordsWithin (take (min (a .n) wordCount) (now (a .numbers))))
 counted c = c .words-within .ensures ∙ simp (c .before .before .lesser .ensures)
@@ -39,9 +36,6 @@ returns : tie.Need-returns
 returns c =
     let a = c .before .before .before .before .before .args in
     outside (now (a .numbers)) (a .n) _ (omega (arith, c .before .before .before .lesser .ensures, c .if1 .taken)) ∙ ap (withWords (now (a .numbers)) (a .n)) (counted (c .before))
-
-add-t13 : tie.Need-add-t13
-add-t13 c = search needs
 
 -- the words are all within: what is left is asked of the number after them
 inside : (c : tie.Else1) → (let a = c .before .before .before .before .before .args in afterWords (now (a .numbers)) (a .n) ≡ Whole (now (a .numbers)) (a .n))
@@ -68,9 +62,6 @@ returns-3 c =
 add-at : tie.Need-add-at
 add-at c = search needs
 
-add-t16 : tie.Need-add-t16
-add-t16 c = search needs
-
 -- the earlier x are counted
 x-read : (c : tie.Else3) → (let a = c .before .before .before .before .before .before .before .before .before .args in afterX (now (a .numbers)) (a .n) (c .before .count-of .result) ≡ Whole (now (a .numbers)) (a .n))
 x-read c =
@@ -91,9 +82,6 @@ shared-slice-read-count-of-2 c = search needs
 count-of-requires-2 : tie.Need-count-of-requires-2
 count-of-requires-2 c κs = search needs
 
-add-t19 : tie.Need-add-t19
-add-t19 c = search needs
-
 returns-5 : tie.Need-returns-5
 returns-5 c =
     let before = c .before .before .before .before in
@@ -106,9 +94,6 @@ add-all c = search needs
 add-all-2 : tie.Need-add-all-2
 add-all-2 c = search needs
 
-add-t20 : tie.Need-add-t20
-add-t20 c = search needs
-
 -- the earlier y are counted
 y-read : (c : tie.Else5) → (let before = c .before .before .before .before in let a = before .before .before .before .before .before .before .before .before .before .args in afterCounts (a .n) (before .before .count-of .result) (c .before .count-of2 .result) ≡ Whole (now (a .numbers)) (a .n))
 y-read c =
@@ -118,9 +103,6 @@ y-read c =
 
 returns-6 : tie.Need-returns-6
 returns-6 c = too-few _ _ _ (c .if6 .taken) ∙ y-read (c .before)
-
-add-t21 : tie.Need-add-t21
-add-t21 c = search needs
 
 returns-7 : tie.Need-returns-7
 returns-7 c = too-many _ _ _ (c .if7 .taken) (c .before .if6 .left) ∙ y-read (c .before .before)
@@ -135,25 +117,19 @@ laid-out-spec =
     lesser-requires
     slice-aggregate-words-within
     words-within-requires
-    add-t12
     returns
-    add-t13
     returns-2
     shared-slice-read-count-of
     count-of-requires
     returns-3
     add-at
-    add-t16
     returns-4
     mul-count-of
     shared-slice-read-count-of-2
     count-of-requires-2
-    add-t19
     returns-5
     add-all
     add-all-2
-    add-t20
     returns-6
-    add-t21
     returns-7
     returns-8)

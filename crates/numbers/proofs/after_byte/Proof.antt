@@ -51,11 +51,11 @@ enum-known-progress c = search needs
 enum-known-reading : tie.Need-enum-known-reading
 enum-known-reading c = search needs
 
-sub-t19 : tie.Need-sub-t19
-sub-t19 c = leb-true _ _ (both-true _ _ (c .if2 .taken) .0)
+sub-t23 : tie.Need-sub-t23
+sub-t23 c = leb-true _ _ (both-true _ _ (c .if2 .taken) .0)
 
-cast-t20 : tie.Need-cast-t20
-cast-t20 c = search needs
+cast-t24 : tie.Need-cast-t24
+cast-t24 c = search needs
 
 returns-2 : tie.Need-returns-2
 unfolding kindOf
@@ -64,12 +64,6 @@ returns-2 c =
     let closed = read .before .before .before in
     let left = closed .before .before .if1 .left in
     (simp (left, c .if2 .taken, closed .progress .given .1, read .reading .given .1), simp (left, c .if2 .taken))
-
-add-t21 : tie.Need-add-t21
-add-t21 c =
-    let read = c .before .before in
-    let closed = read .before .before .before in
-    omega (arith, simp (closed .progress .given .1, read .reading .given .1) at (closed .before .before .before .before .pre .0))
 
 enum-known-progress-2 : tie.Need-enum-known-progress-2
 enum-known-progress-2 c = search needs
@@ -104,11 +98,6 @@ returns-4 c =
     let left = opened .before .before .if1 .left in
     (simp (left, c .before .if3 .taken, opened .progress2 .given .1, le-leb _ _ (c .if4 .left)), simp (left, c .before .if3 .taken))
 
-add-t28 : tie.Need-add-t28
-add-t28 c =
-    let opened = c .before .before in
-    omega (arith, simp (opened .progress2 .given .1) at (opened .before .before .before .before .pre .0))
-
 returns-5 : tie.Need-returns-5
 unfolding kindOf
 returns-5 c =
@@ -139,10 +128,9 @@ after-byte-spec =
     returns
     enum-known-progress
     enum-known-reading
-    sub-t19
-    cast-t20
+    sub-t23
+    cast-t24
     returns-2
-    add-t21
     enum-known-progress-2
     mul-w
     sub-w
@@ -150,7 +138,6 @@ after-byte-spec =
     add-w
     returns-3
     returns-4
-    add-t28
     returns-5
     returns-6
     returns-7)

@@ -16,9 +16,6 @@ enum-known-progress c = search needs
 enum-known-progress-2 : tie.Need-enum-known-progress-2
 enum-known-progress-2 c = search needs
 
-add-t8 : tie.Need-add-t8
-add-t8 c = omega (arith, simp (c .before .before .progress2 .given .1) at (c .before .before .before .before .pre))
-
 returns : tie.Need-returns
 returns c =
     let told = c .before .before .progress2 .given .1 in
@@ -34,8 +31,8 @@ mul-numbers c = search needs
 slice-write-numbers : tie.Need-slice-write-numbers
 slice-write-numbers c = search needs
 
-add-t9 : tie.Need-add-t9
-add-t9 c = omega (arith, simp (c .before .before .before .progress2 .given .1) at (c .before .before .before .before .before .pre))
+add-t8 : tie.Need-add-t8
+add-t8 c = omega (arith, simp (c .before .before .before .progress2 .given .1) at (c .before .before .before .before .before .pre))
 
 returns-2 : tie.Need-returns-2
 returns-2 c = search needs
@@ -58,12 +55,11 @@ end-field-spec =
     (tie.spec
     enum-known-progress
     enum-known-progress-2
-    add-t8
     returns
     cast-numbers
     mul-numbers
     slice-write-numbers
-    add-t9
+    add-t8
     returns-2
     same-length
     returns-3)

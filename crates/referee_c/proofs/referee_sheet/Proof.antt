@@ -1,4 +1,5 @@
-use mathlib.Core.Path.{sym, subst, _∙_}
+use mathlib.Core.Path.{ap, sym, subst, _∙_}
+use mathlib.Core.Bool.{not, true≢false}
 use Prim.Native.Nat.{_≤_}
 use native.Mathlib.Omega.{arith}
 use mir.Syntax.{w64}
@@ -14,6 +15,17 @@ use borrow.Author.Needs.{needs}
 use Rattle.referee_c.proofs.referee_sheet.Statement.{statement}
 use Rattle.referee_c.proofs.referee_sheet.Tie as tie
 
+-- ---- another float mode than the language's one: what the call ensures says that there is none
+is-ieee-mode-requires : tie.Need-is-ieee-mode-requires
+is-ieee-mode-requires c κs = search needs
+
+minus-requires : tie.Need-minus-requires
+minus-requires c κs = search needs
+
+returns : tie.Need-returns
+returns c = absurd (true≢false (sym (c .before .if1 .taken) ∙ ap not (c .before .before .is-ieee-mode .ensures)))
+
+-- ---- the default mode
 is-situation-requires : tie.Need-is-situation-requires
 is-situation-requires c κs = search needs
 
@@ -29,7 +41,7 @@ room c = search needs
 answer-number-requires : tie.Need-answer-number-requires
 answer-number-requires c κs =
     let written = c .before .before in
-    let s = written .before .before .before .before .before .before .before .before .before in
+    let s = written .before .before .before .before .before .before .before .before .before .before .before in
     let call = written .write-sheet in
     let told : bytesIn (call .result) ≤ length (now (s .args .sheet)) = subst (λ (a : SheetAnswer). bytesIn a ≤ length (now (s .args .sheet))) (sym (call .ensures .0)) (sheet-room _ _ _ _) in
     omega (arith, told, room s)
@@ -37,35 +49,38 @@ answer-number-requires c κs =
 same-length : tie.Need-same-length
 same-length c = search needs
 
-returns : tie.Need-returns
-returns c =
+returns-2 : tie.Need-returns-2
+returns-2 c =
     let written = c .before .before .before in
     let known = written .before .before in
     let tested = known .before in
-    let a = tested .before .before .before .before .before .before .args in
+    let a = tested .before .before .before .before .before .before .before .before .args in
     let call = written .write-sheet in
-    let told = a-situation (now (a .words)) (now (a .xs)) (now (a .ys)) (now (a .sheet)) _ (call .result) _ (sym (tested .before .is-situation .ensures) ∙ tested .if1 .taken)
+    let told = a-situation (now (a .words)) (now (a .xs)) (now (a .ys)) (now (a .sheet)) _ (call .result) _ (sym (tested .before .is-situation .ensures) ∙ tested .if2 .taken)
     (known .situation-of .ensures) (call .ensures .0) (call .ensures .1) in
     (toZ-ofZ w64 (c .answer-number .result) (search needs) ∙ c .answer-number .ensures ∙ told .0, told .1)
 
-minus-requires : tie.Need-minus-requires
-minus-requires c κs = search needs
+minus-requires-2 : tie.Need-minus-requires-2
+minus-requires-2 c κs = search needs
 
-returns-2 : tie.Need-returns-2
-returns-2 c =
-    let s = c .before .before .before .before .before .before .before in
-    let told = no-situation (now (s .args .words)) (now (s .args .xs)) (now (s .args .ys)) (now (s .args .sheet)) (sym (c .before .before .is-situation .ensures) ∙ c .before .if1 .left) in
-    (toZ-ofZ w64 (c .minus .result) (search needs) ∙ c .minus .ensures ∙ told .0, told .1)
+returns-3 : tie.Need-returns-3
+returns-3 c =
+    let s = c .before .before .before .before .before .before .before .before .before in
+    let told = no-situation (now (s .args .words)) (now (s .args .xs)) (now (s .args .ys)) (now (s .args .sheet)) (sym (c .before .before .is-situation .ensures) ∙ c .before .if2 .left) in
+    (toZ-ofZ w64 (c .minus2 .result) (search needs) ∙ c .minus2 .ensures ∙ told .0, told .1)
 
 pub referee-sheet-spec : {M : Type 1} → statement M
 referee-sheet-spec =
     tie.close
     (tie.spec
+    is-ieee-mode-requires
+    minus-requires
+    returns
     is-situation-requires
     situation-of-requires
     write-sheet-requires
     answer-number-requires
     same-length
-    returns
-    minus-requires
-    returns-2)
+    returns-2
+    minus-requires-2
+    returns-3)

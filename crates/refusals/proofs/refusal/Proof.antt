@@ -10,7 +10,7 @@ use lib.Ieee.{Float}
 use Rattle.lists.specs.Refusals.{firstRefusal}
 use Rattle.game.specs.declared.Situation.{Situation}
 use Rattle.game.specs.declared.Team.{Team}
-use Rattle.refusals.specs.Refusals.{conditionsOf, fieldFits, teamFits, placesFit, listsFit, posesFit, isCoordinate, numberFits, restartFits, wishFits, numbersFit, distanceFits, five, refusalOf}
+use Rattle.refusals.specs.Refusals.{requirementsOf, fieldFits, teamFits, placesFit, listsFit, posesFit, isCoordinate, numberFits, restartFits, wishFits, numbersFit, distanceFits, five, refusalOf}
 use Rattle.refusals.proofs.refusal.Statement.{statement}
 use Rattle.refusals.proofs.refusal.Tie as tie
 
@@ -21,7 +21,7 @@ told : (s : Situation) (xs ys : List Float) (a b x y z h w k l : Bool) (r : ℕ)
     → x ≡ isCoordinate (s .ball .x) → y ≡ isCoordinate (s .ball .y) → z ≡ isCoordinate (s .ball .z)
     → h ≡ numberFits (s .home .goalkeeper) → w ≡ numberFits (s .away .goalkeeper) → k ≡ restartFits (s .restart) → l ≡ wishFits (s .wish)
     → r ≡ firstRefusal (five a b (x && y && z) (h && w && k && l) (distanceFits (s .«penalty_placement_distance»))) → r ≡ refusalOf s xs ys
-unfolding refusalOf conditionsOf numbersFit
+unfolding refusalOf requirementsOf numbersFit
 told s xs ys a b x y z h w k l r ea eb ex ey ez eh ew ek el e =
     e
     ∙ ap₂ (λ (u v : Bool). firstRefusal (five u v (x && y && z) (h && w && k && l) (distanceFits (s .«penalty_placement_distance»)))) ea eb

@@ -24,8 +24,17 @@ slice-aggregate-holds c =
 holds-requires : tie.Need-holds-requires
 holds-requires c κs = search needs
 
+enum-known-reply : tie.Need-enum-known-reply
+enum-known-reply c = search needs
+
+enum-known-reply-2 : tie.Need-enum-known-reply-2
+enum-known-reply-2 c = search needs
+
 returns-2 : tie.Need-returns-2
 returns-2 c = search needs
+
+returns-3 : tie.Need-returns-3
+returns-3 c = search needs
 
 pub judged-spec : {M : Type 1} → statement M
 judged-spec =
@@ -37,4 +46,7 @@ judged-spec =
     judge-requires
     slice-aggregate-holds
     holds-requires
-    returns-2)
+    enum-known-reply
+    enum-known-reply-2
+    returns-2
+    returns-3)

@@ -1,0 +1,219 @@
+/* Tries referee_sheet, referee_candidates and referee_check of libreferee_c.a as a C program calls them, in every float mode.
+ *
+ * usage: entries CASE_A SHEET default|flushing
+ *
+ * CASE_A has case A as `judge` reads it, SHEET its sheet; the third word says in which mode the program is to start. A line for each check with tabs in it: `ok` and the name,
+ * or `FAILED`, the name and what was seen. The last line is `end`. Everything is compared as whole numbers, so that no mode has a part in it.
+ */
+#include <fenv.h>
+#include <stdbool.h>
+#include <stdio.h>
+#include <stdlib.h>
+#include <string.h>
+#include <xmmintrin.h>
+
+#include "referee.h"
+
+/* Bits of MXCSR: subnormal operands are zeros, subnormal results are zeros, all exceptions masked; the rounding is in bits 13 and 14. */
+enum { DAZ = 0x0040, FTZ = 0x8000, DEFAULT = 0x1f80, ROUNDING = 13 };
+
+enum { ROOM = REFEREE_SHEET_BYTES + 100 };
+
+typedef struct {
+    const char *name;
+    uint32_t words[REFEREE_WORDS];
+    char sheet[256];
+} Case;
+
+static Case cases[3];
+static char seen[200];
+
+static void stop(const char *why) {
+    printf("FAILED\ttools/checks/entries.c\t%s\n", why);
+    exit(2);
+}
+
+/* What was seen first of a check that fails. */
+static bool wrong(const char *what, const char *name, long long answer, const char *text) {
+    if (seen[0] == 0)
+        snprintf(seen, sizeof seen, "%s, %s: answer %lld%s", what, name, answer, text);
+    return false;
+}
+
+static void tell(const char *name, bool right) {
+    if (right)
+        printf("ok\t%s\n", name);
+    else
+        printf("FAILED\t%s\t%s\n", name, seen);
+    seen[0] = 0;
+}
+
+static uint8_t filler(size_t i) {
+    return (uint8_t)(i * 31 + 7);
+}
+
+/* Whether a call answers `want`, with `sheet` at the front of the lent bytes and the others kept. */
+static bool sheet_is(const char *name, const uint32_t *words, size_t length, long long want, const char *sheet) {
+    static const float none[1];
+    static uint8_t lent[ROOM];
+    for (size_t i = 0; i < ROOM; i++)
+        lent[i] = filler(i);
+    long long n = referee_sheet(words, length, none, 0, none, 0, lent, REFEREE_SHEET_BYTES);
+    size_t front = strlen(sheet);
+    if (n != want)
+        return wrong("referee_sheet", name, n, "");
+    if (memcmp(lent, sheet, front) != 0)
+        return wrong("referee_sheet", name, n, ", another sheet");
+    for (size_t i = front; i < ROOM; i++)
+        if (lent[i] != filler(i))
+            return wrong("referee_sheet", name, n, ", a byte written that is to be kept");
+    return true;
+}
+
+/* The same of the candidates from -5 between -6.75 and -0.25 by steps of 1, which document 01 has: -5, -6, -4, -3, -2, -1. */
+static bool candidates_are(size_t length, long long want) {
+    static const uint32_t places[6] = {0xc0a00000, 0xc0c00000, 0xc0800000, 0xc0400000, 0xc0000000, 0xbf800000};
+    static uint32_t lent[REFEREE_CANDIDATES];
+    static float list[REFEREE_CANDIDATES];
+    char name[32];
+    snprintf(name, sizeof name, "%d lent", (int)length);
+    for (size_t i = 0; i < REFEREE_CANDIDATES; i++)
+        lent[i] = 0x40000000u | (uint32_t)i;
+    memcpy(list, lent, sizeof list);
+    long long n = referee_candidates(-5.0f, -6.75f, -0.25f, 1.0f, list, length);
+    if (n != want)
+        return wrong("referee_candidates", name, n, "");
+    for (long long i = 0; i < want; i++)
+        lent[i] = places[i];
+    if (memcmp(list, lent, sizeof list) != 0)
+        return wrong("referee_candidates", name, n, ", another list");
+    return true;
+}
+
+static bool check_is(const char *name, const uint32_t *words, size_t length, long long want) {
+    long long n = referee_check(words, length);
+    return n == want ? true : wrong("referee_check", name, n, "");
+}
+
+/* Everything in the mode that is set. In a wrong one -101 comes before what else there is to tell, and all that is lent is kept; referee_check computes with no floats. */
+static void in_mode(const char *name, bool right) {
+    bool ok = true;
+    for (size_t i = 0; i < 3; i++)
+        ok &= sheet_is(cases[i].name, cases[i].words, REFEREE_WORDS, right ? (long long)strlen(cases[i].sheet) : -101, right ? cases[i].sheet : "");
+    ok &= sheet_is("a word too few", cases[0].words, REFEREE_WORDS - 1, right ? -100 : -101, "");
+    ok &= sheet_is("no words", cases[0].words, 0, right ? -100 : -101, "");
+    ok &= candidates_are(REFEREE_CANDIDATES, right ? 6 : -101);
+    ok &= candidates_are(7, right ? 6 : -101);
+    ok &= candidates_are(5, right ? -6 : -101);
+    ok &= candidates_are(0, right ? -6 : -101);
+    ok &= check_is("case A", cases[0].words, REFEREE_WORDS, 0);
+    tell(name, ok);
+}
+
+static void modes(void) {
+    static const int directions[4] = {FE_TONEAREST, FE_UPWARD, FE_DOWNWARD, FE_TOWARDZERO};
+    static const char *const names[4] = {"to nearest", "upward", "downward", "toward zero"};
+    char name[100];
+    in_mode("float mode: as the program starts", true);
+    for (int i = 0; i < 4; i++) {
+        if (fesetround(directions[i]) != 0)
+            stop("fesetround");
+        snprintf(name, sizeof name, "float mode: fesetround, %s", names[i]);
+        in_mode(name, i == 0);
+        fesetround(FE_TONEAREST);
+    }
+    for (unsigned rounding = 0; rounding < 4; rounding++)
+        for (unsigned flush = 0; flush < 4; flush++) {
+            static const char *const roundings[4] = {"to nearest", "downward", "upward", "toward zero"};
+            static const char *const bits[4] = {"", ", flush-to-zero", ", denormals-are-zero", ", flush-to-zero, denormals-are-zero"};
+            snprintf(name, sizeof name, "float mode: MXCSR, %s%s", roundings[rounding], bits[flush]);
+            _mm_setcsr(DEFAULT | rounding << ROUNDING | (flush & 1 ? FTZ : 0) | (flush & 2 ? DAZ : 0));
+            in_mode(name, rounding == 0 && flush == 0);
+        }
+    _mm_setcsr(DEFAULT);
+    in_mode("float mode: the default again", true);
+}
+
+static void fast_math(void) {
+    unsigned mode = _mm_getcsr();
+    if ((mode & (FTZ | DAZ)) == 0) {
+        snprintf(seen, sizeof seen, "MXCSR is %04x", mode);
+        tell("-ffast-math: the program starts with another mode", false);
+    } else
+        tell("-ffast-math: the program starts with another mode", true);
+    in_mode("-ffast-math: as the program starts", false);
+    _mm_setcsr(DEFAULT);
+    in_mode("-ffast-math: the default again", true);
+}
+
+/* referee_check at the first and the last word that has a column, at two words outside, and at other lengths. */
+static void check_words(void) {
+    uint32_t words[REFEREE_WORDS + 1] = {0};
+    const uint32_t *a = cases[0].words;
+    memcpy(words, a, sizeof cases[0].words);
+    tell("referee_check: 0 at case A", check_is("case A", words, REFEREE_WORDS, 0));
+    words[REFEREE_W_SIDES] = 2;
+    tell("referee_check: 16 where the sides are 2", check_is("sides 2", words, REFEREE_WORDS, 16));
+    words[REFEREE_W_STATE] = 6;
+    tell("referee_check: the first of two", check_is("sides 2, state 6", words, REFEREE_WORDS, 16));
+    words[REFEREE_W_SIDES] = 1;
+    tell("referee_check: the other of two", check_is("state 6", words, REFEREE_WORDS, 19));
+    words[REFEREE_W_STATE] = a[REFEREE_W_STATE];
+    words[REFEREE_W_WISHED_PLAYER] = 255;
+    tell("referee_check: 0 at the last word's greatest value", check_is("wished player 255", words, REFEREE_WORDS, 0));
+    words[REFEREE_W_WISHED_PLAYER] = 256;
+    tell("referee_check: 563 past it", check_is("wished player 256", words, REFEREE_WORDS, 563));
+    tell("referee_check: -100 a word too few", check_is("562 words", words, REFEREE_WORDS - 1, -100));
+    words[REFEREE_W_WISHED_PLAYER] = 0;
+    tell("referee_check: -100 a word too many", check_is("564 words", words, REFEREE_WORDS + 1, -100));
+    tell("referee_check: -100 without words", check_is("no words", words, 0, -100));
+}
+
+static void read_cases(const char *case_a, const char *sheet) {
+    FILE *file = fopen(case_a, "r");
+    for (int i = 0; i < REFEREE_WORDS; i++)
+        if (file == NULL || fscanf(file, "%u", &cases[0].words[i]) != 1)
+            stop("case A cannot be read");
+    fclose(file);
+    cases[0].name = "case A";
+    file = fopen(sheet, "r");
+    if (file == NULL || fread(cases[0].sheet, 1, sizeof cases[0].sheet - 1, file) != 135)
+        stop("the sheet of case A cannot be read");
+    fclose(file);
+
+    /* A with the ball past a touchline where x is the least subnormal number, 2^-149. Document 01: the side whose half holds the ball takes only x = 0 as not positive, so
+     * the throw-in is Home's. With subnormal operands as zeros it is Away's. */
+    cases[1] = cases[0];
+    cases[1].name = "ball at the least positive x";
+    cases[1].words[REFEREE_W_BALL] = 1;
+    cases[1].words[REFEREE_W_BALL + 1] = 0x40980000; /* 4.75 */
+    memcpy(cases[1].sheet + 90, "          6          0          4          0\n", 45);
+
+    /* Home's penalty kick on A's field; Away 2 at x = -3.70000005, y = 2 with radius 0.300000012 touches the line of its penalty area, x = -4. To nearest, -4 and the radius
+     * make -3.70000005, so that the margin is 0 and it stands legally, as the original Rust answers; upward they make -3.6999998, and it would be inside, which is illegal. */
+    cases[2] = cases[0];
+    cases[2].name = "defender at the penalty area";
+    memset(cases[2].words + REFEREE_W_POSES, 0, 200 * sizeof(uint32_t));
+    memset(cases[2].words + REFEREE_W_BALL, 0, 3 * sizeof(uint32_t));
+    cases[2].words[REFEREE_W_STATE] = REFEREE_STATE_SET;
+    cases[2].words[REFEREE_W_SET_PLAY] = REFEREE_SET_PLAY_PENALTY_KICK;
+    cases[2].words[REFEREE_W_KICKING_SIDE] = REFEREE_SIDE_HOME;
+    static const uint32_t pose[REFEREE_POSE_WORDS] = {1, 0xc06ccccd, 0x40000000, 0, 0x3e99999a};
+    memcpy(cases[2].words + REFEREE_W_POSES + REFEREE_POSE_WORDS * 21, pose, sizeof pose);
+    memset(cases[2].sheet, 0, sizeof cases[2].sheet);
+    memcpy(cases[2].sheet, "          0          2          0          1\n", 45);
+}
+
+int main(int count, char **arguments) {
+    if (count != 4)
+        stop("usage: entries CASE_A SHEET default|flushing");
+    read_cases(arguments[1], arguments[2]);
+    if (strcmp(arguments[3], "flushing") == 0)
+        fast_math();
+    else {
+        modes();
+        check_words();
+    }
+    puts("end");
+    return 0;
+}
