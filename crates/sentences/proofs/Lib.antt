@@ -1,0 +1,5 @@
+pub mod Written
+mod Pieces
+mod Once
+pub mod Claims
+mod Cases

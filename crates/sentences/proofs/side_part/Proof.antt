@@ -1,0 +1,32 @@
+-- Each arm's part holds the piece, byte by byte.
+use mathlib.Core.Path.{refl}
+use lib.Dec.{lit≤}
+use borrow.Author.Needs.{needs}
+use Rattle.sentences.specs.Sentences.{sideWord, verdictWords, conditionWords}
+use Rattle.sentences.specs.Parts.{allWords, sidePiece}
+use Rattle.sentences.proofs.Pieces.{stands-at}
+use Rattle.sentences.proofs.side_part.Statement.{statement}
+use Rattle.sentences.proofs.side_part.Tie as tie
+
+enum-told : tie.Need-enum-told
+enum-told c = search needs
+
+enum-told-2 : tie.Need-enum-told-2
+enum-told-2 c = search needs
+
+returns : tie.Need-returns
+unfolding allWords sideWord verdictWords conditionWords
+returns c = stands-at sidePiece (c .enum-told .given .1) (record { inside = lit≤ tt; sized = refl; told = refl })
+
+returns-2 : tie.Need-returns-2
+unfolding allWords sideWord verdictWords conditionWords
+returns-2 c = stands-at sidePiece (c .enum-told2 .given .1) (record { inside = lit≤ tt; sized = refl; told = refl })
+
+pub side-part-spec : {M : Type 1} → statement M
+side-part-spec =
+    tie.close
+    (tie.spec
+    enum-told
+    enum-told-2
+    returns
+    returns-2)
