@@ -7,9 +7,9 @@
  * length 0. Memory that is written to may not overlap what the same call reads.
  *
  * Float mode. What the entries answer is said of IEEE 754's default mode: rounding to nearest, subnormal numbers kept. A program that calls fesetround, sets flush-to-zero or
- * denormals-are-zero, or is linked with -ffast-math, runs in another. There the entries that compute with floats and answer an int64_t answer REFEREE_OTHER_FLOAT_MODE before anything else
- * and keep every byte; referee_check computes with none. The three entries that answer a float (referee_hypot, referee_normalize_angle, referee_rem_euclid) have no answer for it: they
- * want the default mode and do not look.
+ * denormals-are-zero, or is linked with -ffast-math, runs in another. There the entries that compute with floats and answer an int64_t (referee_sheet, referee_coach, referee_candidates)
+ * answer REFEREE_OTHER_FLOAT_MODE before anything else and keep every byte; referee_check computes with none. The three entries that answer a float (referee_hypot,
+ * referee_normalize_angle, referee_rem_euclid) have no answer for it: they want the default mode and do not look.
  *
  * Threads and stack. No entry has state of its own, so that threads may call them at the same time, each with its own memory to write to. A call takes no heap and less than
  * 30 kB of stack (docs/BENCHMARKS.md has what was measured).
@@ -30,10 +30,13 @@ extern "C" {
 /* Every sheet has room here: eight lists of at most 20 players, a kicker, a ball judgment, a place and the header are 166 lines of 45 bytes. */
 #define REFEREE_SHEET_BYTES 7470
 
+/* Every line for the coach has room here: the longest is `Home 20 illegal unless kicker: only the kicker may be in the centre circle`. */
+#define REFEREE_COACH_BYTES 74
+
 /* No list of candidates has more places than this. */
 #define REFEREE_CANDIDATES 8200
 
-/* Answers below 0 beside the refusals, which are -1 to -7: the words are no situation; the processor's float mode is not the default. */
+/* Answers below 0 beside the refusals, which are -1 to -8: the words are no situation, or the side is neither Home nor Away; the processor's float mode is not the default. */
 #define REFEREE_MALFORMED (-100)
 #define REFEREE_OTHER_FLOAT_MODE (-101)
 
@@ -46,6 +49,14 @@ int64_t referee_check(const uint32_t *words, size_t words_len);
  * nothing is written. */
 int64_t referee_sheet(const uint32_t *words, size_t words_len, const float *xs, size_t xs_len, const float *ys, size_t ys_len, uint8_t *sheet,
                       size_t sheet_len);
+
+/* Writes the line that tells why a player does not stand legally, as `Home 4 illegal: own penalty area`, at the front of the lent text; the bytes after it are kept. The line is
+ * ASCII with no line feed and no NUL at the end; docs/COACH.md has its words. The situation is handed over as to referee_sheet, the player by its side, REFEREE_SIDE_HOME or
+ * REFEREE_SIDE_AWAY, and its number, 1 to 20. Answers the line's length, at most REFEREE_COACH_BYTES; 0 for a player that stands legally, and so for one that is absent, penalised or
+ * exempt; or -n for the refusal n (1 to 5, where another number is 4, then 8 where the text is shorter than the line), or REFEREE_MALFORMED, or REFEREE_OTHER_FLOAT_MODE. Where the
+ * answer is 0 or below nothing is written. */
+int64_t referee_coach(const uint32_t *words, size_t words_len, const float *xs, size_t xs_len, const float *ys, size_t ys_len, uint32_t side, uint32_t number,
+                      uint8_t *text, size_t text_len);
 
 /* Fills the front of the lent list with the candidates for a penalised player's place and keeps the rest. Answers how many there are, or -n for the refusal n
  * (5 or 6), or REFEREE_OTHER_FLOAT_MODE; where the answer is below 0 nothing is written. */

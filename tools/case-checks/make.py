@@ -7,7 +7,8 @@ usage: make.py            write the files
 
 Expected values are document 01's: case A and its lines under 'The sheet', the cases under 'Both sides of a line',
 and the table of refusals. What is printed for an input that is no situation was worked out by hand from the layout
-of an input. Nothing of the project is run.
+of an input; the coach's lines, document 02's first request, from the original's rules.rs and the words of
+docs/COACH.md. Nothing of the project is run.
 
 README.md has the form of a record. A situation is words of 32 bits; a float is its bit pattern. tools/words/layout.py
 has where each run of words begins; PLACES has the words that cases change, by name. Players are in the order Home 1
@@ -30,6 +31,8 @@ from layout import AT, NO_NUMBER, NO_SIDE
 HOME, AWAY = layout.SIDE_HOME, layout.SIDE_AWAY
 READY, SET, PLAYING = layout.STATE_READY, layout.STATE_SET, layout.STATE_PLAYING
 KICK_OFF, THROW_IN = layout.SET_PLAY_KICK_OFF, layout.SET_PLAY_THROW_IN
+PENALTY_KICK, GOAL_KICK = layout.SET_PLAY_PENALTY_KICK, layout.SET_PLAY_GOAL_KICK
+DIRECT, INDIRECT, CORNER = layout.SET_PLAY_DIRECT_FREE_KICK, layout.SET_PLAY_INDIRECT_FREE_KICK, layout.SET_PLAY_CORNER_KICK
 
 
 def bits(x):
@@ -75,16 +78,24 @@ CASE_A = {
 }
 
 
-def player_places(number):
-    """The words of the pose of a player of Home, by name; that which says whether the player is present has the player's name alone."""
-    at = AT["POSES"] + layout.POSE_WORDS * place(HOME, number)
-    name = f"home {number}"
-    return {name: at, f"{name} x": at + 1, f"{name} y": at + 2, f"{name} radius": at + 4}
+def player_name(side, number):
+    """What a player's words are called by."""
+    return f"{('home', 'away')[side]} {number}"
+
+
+def player_places(side, number):
+    """The words of a player's pose and penalty, by name; that which says whether the player is present has the player's name alone."""
+    k = place(side, number)
+    at = AT["POSES"] + layout.POSE_WORDS * k
+    name = player_name(side, number)
+    return {name: at, f"{name} x": at + 1, f"{name} y": at + 2, f"{name} radius": at + 4, f"{name} penalty": AT["PENALTIES"] + k}
 
 
 # the words that cases change, by name
 PLACES = {
     "length": AT["FIELD_LENGTH"],
+    "penalty area length": AT["PENALTY_AREA_LENGTH"],
+    "circle": AT["CENTER_CIRCLE_RADIUS"],
     "distance": AT["PENALTY_PLACEMENT_DISTANCE"],
     "sides": AT["SIDES"],
     "state": AT["STATE"],
@@ -92,11 +103,7 @@ PLACES = {
     "kicking side": AT["KICKING_SIDE"],
     "home goalkeeper": AT["GOALKEEPERS"],
     "away goalkeeper": AT["GOALKEEPERS"] + 1,
-    **player_places(2),
-    **player_places(3),
-    **player_places(4),
-    **player_places(5),
-    **player_places(6),
+    **{name: at for side in (HOME, AWAY) for number in range(1, 21) for name, at in player_places(side, number).items()},
     "away 20 allowance": AT["ALLOWANCES"] + place(AWAY, 20),
     "home 2 inside": AT["PREVIOUSLY_INSIDE"] + place(HOME, 2),
     "home 3 inside": AT["PREVIOUSLY_INSIDE"] + place(HOME, 3),
@@ -112,7 +119,13 @@ PLACES = {
     "wished player": AT["WISHED_PLAYER"],
 }
 
-A = [word for name, _, groups, group in layout.RUNS for word in CASE_A.get(name, [0] * (groups * len(group)))]
+
+def words_of(runs):
+    """The words of a situation by the name of their run; a run that is not named is 0."""
+    return [word for name, _, groups, group in layout.RUNS for word in runs.get(name, [0] * (groups * len(group)))]
+
+
+A = words_of(CASE_A)
 
 
 def edited(base, edits):
@@ -127,6 +140,9 @@ def edited(base, edits):
 NOBODY = {"home 2": 0, "home 3": 0, "home 4": 0, "home 5": 0, "home 2 inside": 0, "home 3 inside": 0, "home 4 inside": 0}
 EMPTY_FIELD = edited(A, {**NOBODY, "ball x": 0.0, "ball y": 0.0})
 
+# the same with 0 in every word of the players and the ball, for the coach's lines: these situations are shorter to write
+BARE_FIELD = words_of({name: words for name, words in CASE_A.items() if name not in ("POSES", "PREVIOUSLY_INSIDE", "BALL")})
+
 # the patterns of a NaN, and of the least numbers above 64, 1 and 0
 NAN = 0x7FC0_0000
 ABOVE_64, ABOVE_1, ABOVE_0 = 0x4280_0001, 0x3F80_0001, 0x0000_0001
@@ -136,8 +152,11 @@ ABOVE_64, ABOVE_1, ABOVE_0 = 0x4280_0001, 0x3F80_0001, 0x0000_0001
 
 TELLS = 1  # the kind of a record whose input the program `judge` reads, and whose answer is told: a refusal, or what is wrong
 ANSWERS = 2  # the same, and the answer is a sheet
+COACH_TELLS, COACH_ANSWERS = 3, 4  # the same two of `judge coach`, whose answer is lines for the coach
 WRITE_SHEET = 10  # the kind of a record of the library's entry that no refusal is expected of; the refusal n makes it 10 + n
+WRITE_LINE = 20  # the same of the coach's line of one player
 MOST = 512  # bytes that are lent where a case says nothing else
+LIST_ROOM = 262144  # bytes that the program case_checks has for the list
 
 
 def sheet(rows):
@@ -150,10 +169,11 @@ def record(kind, room, given, answer):
     return f"{kind:11}{room:11}{len(given):11}{len(answer):11}\n{given}{answer}"
 
 
-def situation(words, places=(0, 0), value=0.0):
-    """The input of a record of the library's entry: the words, how many earlier x and y, and the pattern of each of these."""
+def situation(words, places=(0, 0), value=0.0, player=()):
+    """The input of a record of the library's entry: the words, how many earlier x and y, the pattern of each of these, and for the coach's line
+    the player's side and number."""
     pattern = bits(value) if isinstance(value, float) else value
-    return " ".join(map(str, [*words, *places, pattern])) + "\n"
+    return " ".join(map(str, [*words, *places, pattern, *player])) + "\n"
 
 
 def written(name, base, edits, rows, room=MOST):
@@ -509,16 +529,377 @@ def sheets_of_a():
     ]
 
 
+# ---- the coach's lines of one player: each condition of docs/COACH.md on both sides of its boundary ----
+
+# The field is that of A, with floats for all of this: half the length is 7, a penalty mark is 7 - 2 = 5 from x 0, and a player of radius 0.25 touches the
+# centre circle at 1.5 + 0.25 = 1.75 from its centre, a mark at 1/16 + 0.25 = 0.3125, the halfway line at 1/32 + 0.25 = 0.28125 from x 0, and a penalty area at
+# 7 - 3 - 0.25 = 3.75 from x 0 and at 6/2 + 0.25 = 3.25 from y 0. The team's x has the own goal at -7: it is x negated for Home where Home defends the left
+# goal, and for Away where Home defends the right one; otherwise it is x.
+
+LEFT, RIGHT = layout.SIDE_MAPPING_HOME_DEFENDS_LEFT_GOAL, layout.SIDE_MAPPING_HOME_DEFENDS_RIGHT_GOAL
+
+
+def nearer(x, steps=1):
+    """The pattern of the float that is next to x on the side of zero, or so many floats away."""
+    return bits(x) - steps
+
+
+def farther(x):
+    """The pattern of the float that is next to x on the side away from zero."""
+    return bits(x) + 1
+
+
+def stands(side, number, x, y, radius=0.25):
+    """The words that change where a player stands at a place."""
+    name = player_name(side, number)
+    return {name: 1, f"{name} x": x, f"{name} y": y, f"{name} radius": radius}
+
+
+def line(name, edits, player, answer, room=MOST):
+    """A case for which this line of a player is written: an empty one where the player stands legally."""
+    return name, record(WRITE_LINE, room, situation(edited(BARE_FIELD, edits), player=player), answer)
+
+
+def no_line(name, edits, player, refusal, room=MOST):
+    """A case in which the line of a player is refused: no byte is written."""
+    return name, record(WRITE_LINE + refusal, room, situation(edited(BARE_FIELD, edits), player=player), "")
+
+
+def at(game, player, x, y):
+    """The words that change for a game and a player at a place."""
+    return {**game, **stands(*player, x, y)}
+
+
+ONLY_KICKER_20 = "Away 20 illegal unless kicker: only the kicker may be in the centre circle"
+CIRCLE_20 = {"sides": RIGHT, "state": SET, "set play": KICK_OFF, "kicking side": AWAY}
+
+
+def on_centre_mark():
+    """1, at x 0, where hypot(0, y) is |y|: the float below 0.3125 is on the mark, 0.3125 is not. In Playing the mark is not asked for. Whoever is not on it
+    is in the other half, since 0 is above -0.28125, and in the circle: 3. A penalised player stands legally."""
+    game = {"sides": LEFT, "set play": KICK_OFF, "kicking side": HOME}
+    player = (HOME, 1)
+    in_set, playing = {**game, "state": SET}, {**game, "state": PLAYING}
+    on = nearer(0.3125)
+    only_kicker = "Home 1 illegal unless kicker: only the kicker may be in the centre circle"
+    return [
+        line("condition 1, y below 0.3125", at(in_set, player, 0.0, on), player, "Home 1 illegal: on the centre mark"),
+        line("condition 1 not but 3, y 0.3125", at(in_set, player, 0.0, 0.3125), player, only_kicker),
+        line("condition 1 not but 3, y below 0.3125 in Playing", at(playing, player, 0.0, on), player, only_kicker),
+        line("condition 1 not, penalised", {**at(in_set, player, 0.0, on), "home 1 penalty": layout.PENALTY_SUBSTITUTE}, player, ""),
+    ]
+
+
+def about_circle():
+    """2 and 3, at x 0, in the other half: at y -1.75 the distance is 1.75 and the player not in the circle; with the float nearer to 0 it is in it. That
+    line is the longest of all, 74 bytes, and no more are lent."""
+    player = (AWAY, 20)
+    assert len(ONLY_KICKER_20) == 74
+    return [
+        line("condition 2, y -1.75", at(CIRCLE_20, player, 0.0, -1.75), player, "Away 20 illegal: outside the centre circle"),
+        line("condition 3, y above -1.75, 74 bytes lent", at(CIRCLE_20, player, 0.0, nearer(-1.75)), player, ONLY_KICKER_20, 74),
+    ]
+
+
+def other_half():
+    """4 where no side kicks, and 5 where none does and where the other side does, at y 0, where the distance is |x|. The other half is where the team's x
+    is above -0.28125: 4 and 5 hold there, and at -0.28125 only 5. At -1.75 the distance is 1.75 and neither holds."""
+    nobody_kicks = {"sides": LEFT, "state": SET, "set play": KICK_OFF, "kicking side": NO_SIDE}
+    home_kicks = {**nobody_kicks, "state": PLAYING, "kicking side": HOME}
+    nine, ten = (HOME, 9), (AWAY, 10)
+    return [
+        line("condition 4 before 5, x below 0.28125", at(nobody_kicks, nine, nearer(0.28125), 0.0), nine, "Home 9 illegal: opponent half"),
+        line("condition 4 not but 5, x 0.28125", at(nobody_kicks, nine, 0.28125, 0.0), nine, "Home 9 illegal: centre circle"),
+        line("condition 5, x above -1.75", at(home_kicks, ten, nearer(-1.75), 0.0), ten, "Away 10 illegal: centre circle"),
+        line("condition 5 not, x -1.75", at(home_kicks, ten, -1.75, 0.0), ten, ""),
+    ]
+
+
+def about_penalty_mark():
+    """6 and 7. The team's x is the float above 5, 2^-21 beyond the mark. With y about 0.3125, where floats are 2^-25 apart, the root is above y by less
+    than 2^-40, so that hypot is y. Below 0.3125 both 6 and 7 hold in Set; at 0.3125, and in Playing, 7 holds and 6 does not. At x 5 the player is not
+    beyond the mark, and is in the penalty area, with the margin 5 - 3.75: 8."""
+    player = (AWAY, 1)
+    in_set = {"sides": LEFT, "state": SET, "set play": PENALTY_KICK, "kicking side": AWAY}
+    playing = {**in_set, "state": PLAYING}
+    on, past = nearer(0.3125), farther(5.0)
+    beyond = "Away 1 illegal: beyond the penalty mark"
+    return [
+        line("condition 6 before 7, y below 0.3125", at(in_set, player, past, on), player, "Away 1 illegal: on the penalty mark"),
+        line("condition 6 not but 7, y 0.3125", at(in_set, player, past, 0.3125), player, beyond),
+        line("condition 7, x above 5, in Playing", at(playing, player, past, on), player, beyond),
+        line("condition 7 not but 8, x 5", at(playing, player, 5.0, on), player, "Away 1 illegal unless kicker: opponent penalty area"),
+    ]
+
+
+def near_penalty_mark():
+    """8 and 9, at y 0, where the margin of the area is the team's x - 3.75 and the distance from the mark 5 - x. With the float above 3.75 the margin is
+    above 0, and 8 and 9 hold; at 3.75 it is 0, and 9 holds. The player is the goalkeeper, who is not exempt on the side that kicks. With the float above
+    3.25 the distance is 1.75 - 2^-22, a float; at 3.25 it is 1.75, and the player stands legally."""
+    keeper = {"sides": RIGHT, "state": SET, "set play": PENALTY_KICK, "kicking side": HOME, "home goalkeeper": 10}
+    field_player = {"sides": LEFT, "state": SET, "set play": PENALTY_KICK, "kicking side": HOME}
+    ten, twenty = (HOME, 10), (HOME, 20)
+    return [
+        line("condition 8 before 9, x above 3.75, the goalkeeper", at(keeper, ten, farther(3.75), 0.0), ten, "Home 10 illegal unless kicker: opponent penalty area"),
+        line("condition 8 not but 9, x 3.75, the goalkeeper", at(keeper, ten, 3.75, 0.0), ten, "Home 10 illegal unless kicker: near the penalty mark"),
+        line("condition 9, x below -3.25", at(field_player, twenty, farther(-3.25), 0.0), twenty, "Home 20 illegal unless kicker: near the penalty mark"),
+        line("condition 9 not, x -3.25", at(field_player, twenty, -3.25, 0.0), twenty, ""),
+    ]
+
+
+def behind_own_mark():
+    """10, 11 and 12 with a circle of radius 4, so that all three can hold: near the mark is less than 4.25 from it, and y is 3.25 at most. With the team's
+    x the float below -5 and y the float below 3.25 the margin of the area is 2^-22, and all hold; at y 3.25 it is 0, and 11 and 12 hold; at x -5 only 12.
+    The goalkeeper of the player's side is exempt, and the other side's, of the same number here, is not."""
+    game = {"sides": RIGHT, "state": SET, "set play": PENALTY_KICK, "kicking side": HOME, "circle": 4.0, "home goalkeeper": 9}
+    player = (AWAY, 9)
+    inside = at(game, player, farther(5.0), nearer(3.25))
+    return [
+        line("condition 10 before 11 and 12, y below 3.25", inside, player, "Away 9 illegal: own penalty area"),
+        line("condition 10 not but 11 before 12, x above 5, y 3.25", at(game, player, farther(5.0), 3.25), player, "Away 9 illegal: behind own penalty mark"),
+        line("condition 11 not but 12, x 5, y 3.25", at(game, player, 5.0, 3.25), player, "Away 9 illegal: near own penalty mark"),
+        line("condition 10 not, the goalkeeper", {**inside, "away goalkeeper": 9}, player, ""),
+    ]
+
+
+def near_own_mark():
+    """12, at y 0, where the distance from the mark is the team's x + 5: 1.75 at -3.25, and 1.75 - 2^-22 with the float below. Both places are outside the
+    area, which is touched at -3.75."""
+    game = {"sides": LEFT, "state": PLAYING, "set play": PENALTY_KICK, "kicking side": AWAY}
+    player = (HOME, 4)
+    return [
+        line("condition 12, x above 3.25", at(game, player, farther(3.25), 0.0), player, "Home 4 illegal: near own penalty mark"),
+        line("condition 12 not, x 3.25", at(game, player, 3.25, 0.0), player, ""),
+    ]
+
+
+def near_ball():
+    """13. At a goal kick with the ball at (5, 0.5) a player at (5, 2.25) is 1.75 from it; with the float below 2.25 the distance is 1.75 - 2^-22. Both
+    places are in the area of the goal kick: 14. At a corner with the ball at (-6, 0.5) a player at x about -6.71875 and y 1.25 is nearer than 1.75 to it,
+    and both are in the player's own penalty area: 13 and 15 hold. But whoever is on the own goal line is exempt: |y| is at most 2.5/2, and |x + (7 - 1/32)|
+    at most 0.25. At x -6.71875 that is 0.25; with the float above it is 2^-21 more."""
+    goal_kick = {"sides": LEFT, "state": PLAYING, "set play": GOAL_KICK, "kicking side": HOME, "ball x": 5.0, "ball y": 0.5}
+    corner = {"sides": RIGHT, "state": PLAYING, "set play": CORNER, "kicking side": AWAY, "ball x": -6.0, "ball y": 0.5}
+    two, one = (AWAY, 2), (HOME, 1)
+    return [
+        line("condition 13 before 14, y below 2.25", at(goal_kick, two, 5.0, nearer(2.25)), two, "Away 2 in avoidance region: near the ball"),
+        line("condition 13 not but 14, y 2.25", at(goal_kick, two, 5.0, 2.25), two, "Away 2 in avoidance region: penalty area of the goal kick"),
+        line("condition 13 before 15, x above -6.71875", at(corner, one, nearer(-6.71875), 1.25), one, "Home 1 in avoidance region: near the ball"),
+        line("condition 13 not, on the goal line, x -6.71875", at(corner, one, -6.71875, 1.25), one, ""),
+    ]
+
+
+def goal_kick_area():
+    """14, with penalty areas of length 8, so that 15 can hold too. The margin of the area of the goal kick is the team's x - (7 - 8 - 0.25): 0 at -1.25,
+    above 0 with the float above. That of the own area, (-7 + 8 + 0.25) - x, is above 0 at both; the ball, at -5 in the team's x, is in that area, and more
+    than 1.75 away."""
+    game = {"sides": LEFT, "state": PLAYING, "set play": GOAL_KICK, "kicking side": AWAY, "penalty area length": 8.0, "ball x": 5.0}
+    player = (HOME, 3)
+    return [
+        line("condition 14 before 15, x below 1.25", at(game, player, nearer(1.25), 0.0), player, "Home 3 in avoidance region: penalty area of the goal kick"),
+        line("condition 14 not but 15, x 1.25", at(game, player, 1.25, 0.0), player, "Home 3 in avoidance region: own penalty area with the ball in it"),
+    ]
+
+
+def area_of_ball():
+    """15, with the ball on the corner of the area, at -4 in the team's x and y -3, which is in it; with its x one float nearer to 0 it is not. The margin
+    of the player is -3.75 - x: 0 at -3.75, above 0 with the float below. Its distance from the ball is at least 3, and no goal kick is taken."""
+    game = {"sides": RIGHT, "state": PLAYING, "set play": INDIRECT, "kicking side": HOME, "ball x": 4.0, "ball y": -3.0}
+    player = (AWAY, 20)
+    inside = at(game, player, farther(3.75), 0.0)
+    return [
+        line("condition 15, x above 3.75", inside, player, "Away 20 in avoidance region: own penalty area with the ball in it"),
+        line("condition 15 not, x 3.75", at(game, player, 3.75, 0.0), player, ""),
+        line("condition 15 not, ball x below 4", {**inside, "ball x": nearer(4.0)}, player, ""),
+    ]
+
+
+def coach_lines():
+    """The lines of one player."""
+    kick_offs = on_centre_mark() + about_circle() + other_half()
+    penalty_kicks = about_penalty_mark() + near_penalty_mark() + behind_own_mark() + near_own_mark()
+    return kick_offs + penalty_kicks + near_ball() + goal_kick_area() + area_of_ball()
+
+
+# ---- the coach's line refused ----
+
+# Players, each with a line, that a number out of range could be mistaken for: Away 1 for Home 21, Home 20 for Away 0, Home 1 for Home 257, and Home 19 for Away
+# 4294967295, as -1. At the centre mark, where no side kicks, they are in the opponents' half.
+MISTAKEN = {
+    "set play": KICK_OFF,
+    **stands(HOME, 1, 0.0, 0.0),
+    **stands(HOME, 19, 0.0, 0.0),
+    **stands(HOME, 20, 0.0, 0.0),
+    **stands(AWAY, 1, 0.0, 0.0),
+}
+
+
+def coach_room():
+    """8: the longest line with one byte too few, and with none. A player that stands legally needs none: an absent one, whose other words are as before."""
+    player = (AWAY, 20)
+    there = at(CIRCLE_20, player, 0.0, nearer(-1.75))
+    return [
+        no_line("coach refused 8, 73 bytes lent", there, player, 8, 73),
+        no_line("coach refused 8, nothing lent", there, player, 8, 0),
+        line("coach, absent, nothing lent", {**there, "away 20": 0}, player, "", 0),
+    ]
+
+
+def coach_numbers():
+    """4: a number outside 1 to 20, which goes before 5 and 8, and a goalkeeper's, when a player is asked for that has no line. 1, 2 and 3 go before 4. 5
+    goes before 8: the line of Home 1 has 29 bytes."""
+    five = {**MISTAKEN, "distance": 0.01}
+    return [
+        no_line("coach refused 4, Away 0, nothing lent", MISTAKEN, (AWAY, 0), 4, 0),
+        no_line("coach refused 4, Home 21, with 5", five, (HOME, 21), 4),
+        no_line("coach refused 4, Home 255", MISTAKEN, (HOME, 255), 4),
+        no_line("coach refused 4, Away 256", MISTAKEN, (AWAY, 256), 4),
+        no_line("coach refused 4, Home 257", MISTAKEN, (HOME, 257), 4),
+        no_line("coach refused 4, Away 4294967295", MISTAKEN, (AWAY, 4294967295), 4),
+        no_line("coach refused 4, goalkeeper 255", {**MISTAKEN, "away goalkeeper": 255}, (HOME, 2), 4),
+        no_line("coach refused 1, with Home 257 and nothing lent", {**MISTAKEN, "length": 3.5}, (HOME, 257), 1, 0),
+        no_line("coach refused 2, with Away 0", {**MISTAKEN, "home 1 radius": 0.0}, (AWAY, 0), 2),
+        no_line("coach refused 3, with Home 21", {**MISTAKEN, "ball z": NAN}, (HOME, 21), 3),
+        no_line("coach refused 5, 28 bytes lent", five, (HOME, 1), 5, 28),
+    ]
+
+
+# ---- `judge coach` ----
+
+
+def coach_input(edits):
+    """A situation as `judge coach` reads it, without earlier places."""
+    return " ".join(map(str, [*edited(BARE_FIELD, edits), 0, 0])) + "\n"
+
+
+def coach_answer(lines):
+    """What `judge coach` answers: each line with a line feed."""
+    return "".join(text + "\n" for text in lines)
+
+
+def players(side, places):
+    """The words that change where players of a side stand at places, by their number."""
+    return {name: word for number, spot in places.items() for name, word in stands(side, number, *spot).items()}
+
+
+def judged_kick_off():
+    """Home kicks off in Set; its team's x is x, that of Away x negated. Home 1 is on the mark, though not in the other half; 2 is 0.3125 from it. 3 and 9
+    are in the other half, outside the circle and in it; 4 and 10, a float farther back, are not. 18, 19 and 20 have radius 1 and touch the circle at 2.5,
+    the distance of (1.5, 2). With y less by 2^-23 the root is less by 0.4 of the 2^-22 between floats, and rounded to 2.5; with y less by 2^-22 it is less
+    by 0.8 of it, and rounded to the float below. Away 1 and 2 are about x 0.28125, outside the circle, 9 and 10 about its edge; 20 is penalised."""
+    game = {"sides": RIGHT, "state": SET, "set play": KICK_OFF, "kicking side": HOME}
+    home = {1: (nearer(-0.3125), 0.0), 2: (-0.3125, 0.0), 3: (nearer(-0.28125), 2.0), 4: (-0.28125, 2.0), 9: (nearer(-0.28125), 1.0), 10: (-0.28125, 1.0)}
+    large = {18: (1.5, 2.0, 1.0), 19: (1.5, nearer(2.0), 1.0), 20: (1.5, nearer(2.0, 2), 1.0)}
+    away = {1: (nearer(0.28125), 3.0), 2: (0.28125, 3.0), 9: (1.75, 0.0), 10: (nearer(1.75), 0.0), 20: (0.0, 0.0)}
+    edits = {**game, **players(HOME, home), **players(HOME, large), **players(AWAY, away), "away 20 penalty": layout.PENALTY_PUSHING}
+    lines = [
+        "Home 1 illegal: on the centre mark",
+        "Home 3 illegal: outside the centre circle",
+        "Home 9 illegal unless kicker: only the kicker may be in the centre circle",
+        "Home 18 illegal: outside the centre circle",
+        "Home 19 illegal: outside the centre circle",
+        "Home 20 illegal unless kicker: only the kicker may be in the centre circle",
+        "Away 1 illegal: opponent half",
+        "Away 10 illegal: centre circle",
+    ]
+    return "coach for judge, kick-off", record(COACH_ANSWERS, LONGEST, coach_input(edits), coach_answer(lines))
+
+
+def judged_penalty_kick():
+    """Away takes a penalty kick in Set, at (-5, 0); its team's x is x negated, that of Home x. Home 1 is the goalkeeper, and 9 has the number of Away's.
+    Home 2 and 3 are about x -3.75, near the mark; 4 and 5 about y 3.25, behind the mark; 6 and 7 about x -5, beside the area; 20 is penalised. Away 1 and 2
+    are about 0.3125 from the mark, 3 and 4 about x -5; 9, the goalkeeper, and 10 about y -3.25, more than 1.75 from the mark; 20 is above 3.25 in the
+    team's x by one float."""
+    game = {"sides": RIGHT, "state": SET, "set play": PENALTY_KICK, "kicking side": AWAY, "home goalkeeper": 1, "away goalkeeper": 9}
+    home = {2: (farther(-3.75), 0.0), 3: (-3.75, 0.0), 4: (-6.0, nearer(3.25)), 5: (-6.0, 3.25), 6: (farther(-5.0), 4.0), 7: (-5.0, 4.0)}
+    more = {1: (-6.0, 0.0), 9: (-6.0, 0.0), 20: (-6.0, 0.0)}
+    away = {1: (-5.0, nearer(0.3125)), 2: (-5.0, 0.3125), 3: (farther(-5.0), 1.0), 4: (-5.0, 1.0), 20: (farther(-3.25), 0.0)}
+    beside = {9: (-4.5, nearer(-3.25)), 10: (-4.5, -3.25)}
+    of_home = {**players(HOME, home), **players(HOME, more), "home 20 penalty": layout.PENALTY_SENT_OFF}
+    edits = {**game, **of_home, **players(AWAY, away), **players(AWAY, beside)}
+    lines = [
+        "Home 2 illegal: own penalty area",
+        "Home 3 illegal: near own penalty mark",
+        "Home 4 illegal: own penalty area",
+        "Home 5 illegal: behind own penalty mark",
+        "Home 6 illegal: behind own penalty mark",
+        "Home 9 illegal: own penalty area",
+        "Away 1 illegal: on the penalty mark",
+        "Away 2 illegal unless kicker: opponent penalty area",
+        "Away 3 illegal: beyond the penalty mark",
+        "Away 4 illegal unless kicker: opponent penalty area",
+        "Away 9 illegal unless kicker: opponent penalty area",
+        "Away 20 illegal unless kicker: near the penalty mark",
+    ]
+    return "coach for judge, penalty kick", record(COACH_ANSWERS, LONGEST, coach_input(edits), coach_answer(lines))
+
+
+def judged_goal_kick():
+    """Away takes a goal kick with the ball at (6, -1); the team's x of Home is x. Home 1 and 2 are about x 3.75, 11 and 12 about y 3.25; 3 is in its own
+    area, where the ball is not; 20 is penalised. 8, 9 and 10 are in the area at the ball's x, so that the distance is y + 1: 1.75 at y 0.75; with y less by
+    2^-24 midway between two floats, and rounded to the even one, 1.75; with y less by 2^-23 a float. Away 1 is of the side that kicks."""
+    game = {"sides": RIGHT, "state": PLAYING, "set play": GOAL_KICK, "kicking side": AWAY, "ball x": 6.0, "ball y": -1.0}
+    home = {1: (farther(3.75), 2.0), 2: (3.75, 2.0), 3: (-6.0, 0.0), 11: (4.0, nearer(3.25)), 12: (4.0, 3.25), 20: (6.0, -1.0)}
+    above = {8: (6.0, 0.75), 9: (6.0, nearer(0.75)), 10: (6.0, nearer(0.75, 2))}
+    of_home = {**players(HOME, home), **players(HOME, above), "home 20 penalty": layout.PENALTY_ILLEGAL_POSITIONING}
+    edits = {**game, **of_home, **players(AWAY, {1: (6.0, -1.0)})}
+    lines = [
+        "Home 1 in avoidance region: penalty area of the goal kick",
+        "Home 8 in avoidance region: penalty area of the goal kick",
+        "Home 9 in avoidance region: penalty area of the goal kick",
+        "Home 10 in avoidance region: near the ball",
+        "Home 11 in avoidance region: penalty area of the goal kick",
+    ]
+    return "coach for judge, goal kick", record(COACH_ANSWERS, LONGEST, coach_input(edits), coach_answer(lines))
+
+
+def judged_free_kick():
+    """Home takes a free kick with the ball at (-4, 3), a corner of Away's penalty area; the team's x of Away is x. Away 1 and 2 are about x -3.75, 9 and 10
+    about y -3.25; 3 and 4 are on the goal line at y 1.25, a goal post, and one float beyond it; 20 is in the other penalty area, which is avoided at a goal
+    kick. Home 5 is of the side that kicks. Nobody is near the ball. The three lines have 65 bytes each with their line feeds. With the ball's y the float
+    above 3 it is not in the area, and nobody has a line."""
+    game = {"sides": LEFT, "state": PLAYING, "set play": DIRECT, "kicking side": HOME, "ball x": -4.0, "ball y": 3.0}
+    away = {1: (farther(-3.75), 0.0), 2: (-3.75, 0.0), 3: (-7.0, 1.25), 4: (-7.0, farther(1.25)), 20: (4.0, 0.0)}
+    beside = {9: (-6.0, nearer(-3.25)), 10: (-6.0, -3.25)}
+    edits = {**game, **players(AWAY, away), **players(AWAY, beside), **players(HOME, {5: (-5.0, 0.0)})}
+    lines = [
+        "Away 1 in avoidance region: own penalty area with the ball in it",
+        "Away 4 in avoidance region: own penalty area with the ball in it",
+        "Away 9 in avoidance region: own penalty area with the ball in it",
+    ]
+    return [
+        ("coach for judge, free kick, 195 bytes", record(COACH_ANSWERS, 195, coach_input(edits), coach_answer(lines))),
+        ("coach for judge, free kick, 194 bytes", record(COACH_TELLS, 194, coach_input(edits), "refused 8\n")),
+        ("coach for judge, nobody has a line", record(COACH_ANSWERS, LONGEST, coach_input({**edits, "ball y": farther(3.0)}), "")),
+    ]
+
+
+def judged_coach():
+    """What `judge coach` answers and tells: lines of both sides, none, a refusal and a fault, this with too few bytes too."""
+    fault = "word 15 (sides): 2 is none of its values\n"
+    return [
+        judged_kick_off(),
+        judged_penalty_kick(),
+        judged_goal_kick(),
+        *judged_free_kick(),
+        ("coach for judge, 565 zeros", record(COACH_TELLS, LONGEST, input_text(565, ""), "refused 1\n")),
+        ("coach for judge, a fault, 41 bytes", record(COACH_TELLS, 41, input_text(15, "2"), fault)),
+        ("coach for judge, a fault, 40 bytes", record(COACH_TELLS, 40, input_text(15, "2"), "")),
+    ]
+
+
 def main():
     """Writes the files, compares them, or prints the names."""
     assert len(A) == layout.WORDS and set(CASE_A) <= set(AT), len(A)
     cases = whole() + in_set() + goal_line() + touchline() + placements() + kick_off()
     cases += refusals() + several() + inputs() + sheets_of_a()
+    cases += coach_lines() + coach_room() + coach_numbers() + judged_coach()
     if sys.argv[1:] == ["--list"]:
         for number, (name, _) in enumerate(cases, 1):
             print(f"{number}: {name}")
         return 0
     texts = {"stdin": "".join(text for _, text in cases), "stdout": f"{len(cases)} of {len(cases)} agree\n"}
+    assert len(texts["stdin"]) < LIST_ROOM, len(texts["stdin"])
     wrong = 0
     for name, text in texts.items():
         file = CRATE / name

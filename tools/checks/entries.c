@@ -1,4 +1,4 @@
-/* Tries referee_sheet, referee_candidates and referee_check of libreferee_c.a as a C program calls them, in every float mode.
+/* Tries referee_sheet, referee_coach, referee_candidates and referee_check of libreferee_c.a as a C program calls them, in every float mode.
  *
  * usage: entries CASE_A SHEET default|flushing
  *
@@ -27,6 +27,48 @@ typedef struct {
 
 static Case cases[3];
 static char seen[200];
+
+/* Home's kick-off on A's field in Set, the same in Playing, and the first with a distance of 0.01 between placed players and with a ball at z NaN, which are refused. Home 2, 6
+ * and 20 stand on the centre mark, of whom Home 6 is penalised; Home 3 stands legally, Home 1 is absent, and Away 2 is in the other half. */
+static uint32_t in_set[REFEREE_WORDS], in_playing[REFEREE_WORDS], with_distance[REFEREE_WORDS], with_ball[REFEREE_WORDS];
+
+/* A call of referee_coach with so many lent bytes, what it answers and what it writes. */
+typedef struct {
+    const char *name;
+    const uint32_t *words;
+    size_t length;
+    uint32_t side, number;
+    size_t room;
+    int answer;
+    const char *line;
+} Coach;
+
+static const Coach coaches[] = {
+    {"a line", in_set, REFEREE_WORDS, 0, 2, REFEREE_COACH_BYTES, 34, "Home 2 illegal: on the centre mark"},
+    {"exact room", in_set, REFEREE_WORDS, 0, 2, 34, 34, "Home 2 illegal: on the centre mark"},
+    {"-8 where a byte is missing", in_set, REFEREE_WORDS, 0, 2, 33, -8, ""},
+    {"-8 without room", in_set, REFEREE_WORDS, 0, 2, 0, -8, ""},
+    {"the line in Playing", in_playing, REFEREE_WORDS, 0, 2, REFEREE_COACH_BYTES, 73, "Home 2 illegal unless kicker: only the kicker may be in the centre circle"},
+    {"the longest line", in_playing, REFEREE_WORDS, 0, 20, REFEREE_COACH_BYTES, REFEREE_COACH_BYTES, "Home 20 illegal unless kicker: only the kicker may be in the centre circle"},
+    {"-8 where a byte is missing of the longest", in_playing, REFEREE_WORDS, 0, 20, REFEREE_COACH_BYTES - 1, -8, ""},
+    {"a line of Away", in_set, REFEREE_WORDS, 1, 2, REFEREE_COACH_BYTES, 29, "Away 2 illegal: opponent half"},
+    {"0 at a legal player", in_set, REFEREE_WORDS, 0, 3, REFEREE_COACH_BYTES, 0, ""},
+    {"0 at a legal player without room", in_set, REFEREE_WORDS, 0, 3, 0, 0, ""},
+    {"0 at an absent player", in_set, REFEREE_WORDS, 0, 1, REFEREE_COACH_BYTES, 0, ""},
+    {"0 at a penalised player", in_set, REFEREE_WORDS, 0, 6, REFEREE_COACH_BYTES, 0, ""},
+    {"0 at a defender at the penalty area", cases[2].words, REFEREE_WORDS, 1, 2, REFEREE_COACH_BYTES, 0, ""},
+    {"-4 of number 0", in_set, REFEREE_WORDS, 0, 0, REFEREE_COACH_BYTES, -4, ""},
+    {"-4 of number 21", in_set, REFEREE_WORDS, 0, 21, REFEREE_COACH_BYTES, -4, ""},
+    {"-4 of number 257", in_set, REFEREE_WORDS, 0, 257, REFEREE_COACH_BYTES, -4, ""},
+    {"-3 before -4", with_ball, REFEREE_WORDS, 0, 21, REFEREE_COACH_BYTES, -3, ""},
+    {"-4 before -5", with_distance, REFEREE_WORDS, 0, 21, REFEREE_COACH_BYTES, -4, ""},
+    {"-5 before -8", with_distance, REFEREE_WORDS, 0, 2, 0, -5, ""},
+    {"-100 of side 2", in_set, REFEREE_WORDS, 2, 2, REFEREE_COACH_BYTES, -100, ""},
+    {"-100 of 562 words", in_set, REFEREE_WORDS - 1, 0, 2, REFEREE_COACH_BYTES, -100, ""},
+    {"-100 before -3", with_ball, REFEREE_WORDS, 2, 21, 0, -100, ""},
+};
+
+enum { COACHES = sizeof coaches / sizeof coaches[0] };
 
 static void stop(const char *why) {
     printf("FAILED\ttools/checks/entries.c\t%s\n", why);
@@ -90,6 +132,24 @@ static bool candidates_are(size_t length, long long want) {
     return true;
 }
 
+/* The same of a call of referee_coach, which is to answer -101 and keep every byte where the mode is not the right one. */
+static bool coach_is(const Coach *call, bool right) {
+    static const float none[1];
+    static uint8_t lent[REFEREE_COACH_BYTES + 26];
+    for (size_t i = 0; i < sizeof lent; i++)
+        lent[i] = filler(i);
+    long long n = referee_coach(call->words, call->length, none, 0, none, 0, call->side, call->number, lent, call->room);
+    size_t front = right ? strlen(call->line) : 0;
+    if (n != (right ? call->answer : -101))
+        return wrong("referee_coach", call->name, n, "");
+    if (memcmp(lent, call->line, front) != 0)
+        return wrong("referee_coach", call->name, n, ", another line");
+    for (size_t i = front; i < sizeof lent; i++)
+        if (lent[i] != filler(i))
+            return wrong("referee_coach", call->name, n, ", a byte written that is to be kept");
+    return true;
+}
+
 static bool check_is(const char *name, const uint32_t *words, size_t length, long long want) {
     long long n = referee_check(words, length);
     return n == want ? true : wrong("referee_check", name, n, "");
@@ -102,6 +162,8 @@ static void in_mode(const char *name, bool right) {
         ok &= sheet_is(cases[i].name, cases[i].words, REFEREE_WORDS, right ? (long long)strlen(cases[i].sheet) : -101, right ? cases[i].sheet : "");
     ok &= sheet_is("a word too few", cases[0].words, REFEREE_WORDS - 1, right ? -100 : -101, "");
     ok &= sheet_is("no words", cases[0].words, 0, right ? -100 : -101, "");
+    for (size_t i = 0; i < COACHES; i++)
+        ok &= coach_is(&coaches[i], right);
     ok &= candidates_are(REFEREE_CANDIDATES, right ? 6 : -101);
     ok &= candidates_are(7, right ? 6 : -101);
     ok &= candidates_are(5, right ? -6 : -101);
@@ -169,6 +231,37 @@ static void check_words(void) {
     tell("referee_check: -100 without words", check_is("no words", words, 0, -100));
 }
 
+static void coach_calls(void) {
+    char name[100];
+    for (size_t i = 0; i < COACHES; i++) {
+        snprintf(name, sizeof name, "referee_coach: %s", coaches[i].name);
+        tell(name, coach_is(&coaches[i], true));
+    }
+}
+
+static void put_pose(uint32_t *words, uint32_t side, uint32_t number, uint32_t x, uint32_t y) {
+    uint32_t pose[REFEREE_POSE_WORDS] = {1, x, y, 0, 0x3e800000}; /* of radius 0.25 */
+    memcpy(words + REFEREE_W_POSES + REFEREE_POSE_WORDS * (20 * side + number - 1), pose, sizeof pose);
+}
+
+static void make_coach_words(void) {
+    memcpy(in_set, cases[0].words, sizeof in_set);
+    in_set[REFEREE_W_STATE] = REFEREE_STATE_SET;
+    in_set[REFEREE_W_SET_PLAY] = REFEREE_SET_PLAY_KICK_OFF;
+    in_set[REFEREE_W_KICKING_SIDE] = REFEREE_SIDE_HOME;
+    put_pose(in_set, REFEREE_SIDE_HOME, 2, 0, 0x3e800000); /* (0, 0.25) */
+    put_pose(in_set, REFEREE_SIDE_HOME, 6, 0, 0x3e800000);
+    put_pose(in_set, REFEREE_SIDE_HOME, 20, 0, 0x3e800000);
+    put_pose(in_set, REFEREE_SIDE_AWAY, 2, 0x40800000, 0); /* (4, 0) */
+    in_set[REFEREE_W_PENALTIES + 5] = REFEREE_PENALTY_PUSHING;
+    memcpy(in_playing, in_set, sizeof in_set);
+    in_playing[REFEREE_W_STATE] = REFEREE_STATE_PLAYING;
+    memcpy(with_distance, in_set, sizeof in_set);
+    with_distance[REFEREE_W_PENALTY_PLACEMENT_DISTANCE] = 0x3c23d70a; /* 0.01 */
+    memcpy(with_ball, in_set, sizeof in_set);
+    with_ball[REFEREE_W_BALL + 2] = 0x7fc00000; /* NaN */
+}
+
 static void read_cases(const char *case_a, const char *sheet) {
     FILE *file = fopen(case_a, "r");
     for (int i = 0; i < REFEREE_WORDS; i++)
@@ -208,10 +301,12 @@ int main(int count, char **arguments) {
     if (count != 4)
         stop("usage: entries CASE_A SHEET default|flushing");
     read_cases(arguments[1], arguments[2]);
+    make_coach_words();
     if (strcmp(arguments[3], "flushing") == 0)
         fast_math();
     else {
         modes();
+        coach_calls();
         check_words();
     }
     puts("end");

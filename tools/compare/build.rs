@@ -5,7 +5,10 @@
 //! the stand-ins, serde's attributes and the derives of absent crates go, and hypot, min and max of f32 become methods of a trait
 //! `Leaves`, which each build supplies. Every rule says how often it must match; if it does not, the build fails.
 //!
-//! A third text has deliberate slips in it, each behind a switch (src/slips.rs). It serves only to show that the comparison fails.
+//! A second text has each test of docs/COACH.md record its number where it holds (src/told.rs), and changes nothing else: it serves the
+//! coach's lines alone, so that what is timed and what mutants.py edits is as it was.
+//!
+//! A third text has deliberate slips in it besides, each behind a switch (src/slips.rs). It serves only to show that the comparison fails.
 
 use std::env;
 use std::fs;
@@ -97,9 +100,50 @@ fn oracle(folder: &Path, out: &Path) {
     };
     write("lib.rs", &with_rules(&lib, "rules.rs"));
 
+    record_tests(&mut rules);
+    write("rules_told.rs", &rules.text);
+    write("lib_told.rs", &with_rules(&lib, "rules_told.rs"));
+
     slips(&mut lib, &mut rules);
+    ask_earlier(&mut rules);
     write("rules_slips.rs", &rules.text);
     write("lib_slips.rs", &with_rules(&lib, "rules_slips.rs"));
+}
+
+/// Has each of the fifteen tests of docs/COACH.md record its number. Tests joined by "and" are one; those joined by "or" record
+/// themselves one by one, so that the first that holds is the only one that does; the else records that the test before it failed.
+fn record_tests(rules: &mut Text) {
+    rules.record(1, "if ", "game.state == State::Set && distance_to_center < field.mark_radius + r", " {\n");
+    rules.record(2, "} else if ", "!in_center_circle", " {\n");
+    let arm = "} else {\n                    ";
+    rules.replace(&format!("{arm}IllegalUnlessKicker\n"), &format!("{arm}{RECORD}3, true);\nIllegalUnlessKicker\n"), 1);
+    rules.record(4, "} else if ", "in_opponent_half", " || ");
+    rules.record(5, " || ", "in_center_circle", " {\n");
+    rules.record(6, "if (", "game.state == State::Set && distance_to_mark < field.mark_radius + r", ")\n");
+    rules.record(7, "|| ", "team_x > mark_x", "\n");
+    rules.record(8, "} else if ", "m.opponent_penalty_area > 0.0", "\n");
+    rules.record(9, "|| ", "distance_to_mark < field.center_circle_radius + r", "\n");
+    rules.record(10, "if ", "m.own_penalty_area > 0.0", "\n");
+    rules.record(11, "|| ", "team_x < own_mark_x", "\n");
+    rules.record(12, "|| ", "distance_to_own_mark < field.center_circle_radius + r", "\n");
+    rules.record(
+        13,
+        ";\n    ",
+        "(pose.x - ball_x).leaf_hypot(pose.y - ball_y) < field.center_circle_radius + pose.radius",
+        "\n        || ",
+    );
+    rules.record(14, "|| (", "game.set_play == SetPlay::GoalKick && m.opponent_penalty_area > 0.0", ")\n");
+    rules.record(15, "|| (", "ball_in_own_penalty_area && m.own_penalty_area > 0.0", ")\n");
+    rules.counted(RECORD, 15);
+}
+
+/// Has of tests joined by "or" a later one asked before an earlier one too, behind a switch. The other slips are in the text before.
+fn ask_earlier(rules: &mut Text) {
+    for (later, earlier) in [(5, 4), (7, 6), (9, 8), (11, 10), (12, 10), (12, 11), (14, 13), (15, 13), (15, 14)] {
+        let (asked, test) = (rules.recorded(later), rules.recorded(earlier));
+        let first = asked.replace(&format!("{RECORD}{later}, "), &format!("crate::told::earlier({later}, {earlier}, "));
+        rules.replace(&test, &format!("{first} || {test}"), 1);
+    }
 }
 
 /// Puts the slips of src/slips.rs into the text, each behind its switch.
@@ -156,6 +200,9 @@ fn slips(lib: &mut Text, rules: &mut Text) {
     lib.replace(".copysign(pose.y)", ".copysign(crate::slips::zero_sign(pose.y))", 1);
 }
 
+/// How a test that records itself begins; its number follows.
+const RECORD: &str = "crate::told::told(";
+
 #[derive(Clone)]
 struct Text {
     name: String,
@@ -180,6 +227,25 @@ impl Text {
     fn replace(&mut self, what: &str, by: &str, expected: usize) {
         self.counted(what, expected);
         self.text = self.text.replace(what, by);
+    }
+
+    /// Has the test that stands between these two record its number.
+    fn record(&mut self, number: u8, before: &str, test: &str, after: &str) {
+        self.replace(&format!("{before}{test}{after}"), &format!("{before}{RECORD}{number}, {test}){after}"), 1);
+    }
+
+    /// The test that records this number, up to its closing parenthesis.
+    fn recorded(&self, number: u8) -> String {
+        let start = format!("{RECORD}{number}, ");
+        self.counted(&start, 1);
+        let from = self.text.find(&start).expect("it was counted");
+        let mut open = 0;
+        let closes = |c: char| {
+            open += i32::from(c == '(') - i32::from(c == ')');
+            c == ')' && open == 0
+        };
+        let length = self.text[from..].find(closes).expect("the parenthesis is closed");
+        self.text[from..=from + length].to_string()
     }
 
     fn without_module_comment(&mut self) {

@@ -9,13 +9,13 @@ use lib.Dec.{eqb}
 use lib.ListN.{length, getD}
 use Rattle.lists.specs.Every.{everyTo}
 use Rattle.arguments.specs.declared.Command.{Command}
-use Rattle.arguments.specs.declared.Command.the-variants.{Sheet, Help}
+use Rattle.arguments.specs.declared.Command.the-variants.{Sheet}
 use Rattle.arguments.specs.declared.MaybeCommand.{MaybeCommand}
-use Rattle.arguments.specs.declared.MaybeCommand.the-variants.{NoCommand, Of}
+use Rattle.arguments.specs.declared.MaybeCommand.the-variants.{Of}
 use Rattle.arguments.specs.declared.Source.{Source}
 use Rattle.arguments.specs.declared.Source.the-variants.{StandardInput, SecondWord}
 use Rattle.arguments.specs.declared.Asked.the-variants.{Run, Unclear}
-use Rattle.arguments.specs.Arguments.{isWord, sheetWord, helpWord, dash, commandOf, sourceOf, byOne, byTwo, askedOf}
+use Rattle.arguments.specs.Arguments.{isWord, dash, commandOf, sourceOf, byOne, byTwo, askedOf}
 
 -- ---- two words
 module _ (word name : List ℕ) where
@@ -32,21 +32,12 @@ module _ (word name : List ℕ) where
 
 -- ---- a word
 module _ (word : List ℕ) where
-  pub is-sheet : (b : Bool) → b ≡ isWord word sheetWord → b ≡ true → Of Sheet ≡ commandOf word
-  unfolding commandOf
-  is-sheet b e y = ap (λ (t : Bool). cond t (Of Sheet) (cond (isWord word helpWord) (Of Help) NoCommand)) (sym y ∙ e)
+  -- it is this name, or another: what is then told
+  pub this-name : (name : List ℕ) (b : Bool) (x y : MaybeCommand) → b ≡ isWord word name → b ≡ true → x ≡ cond (isWord word name) x y
+  this-name name b x y e h = ap (λ (t : Bool). cond t x y) (sym h ∙ e)
 
-  pub is-help : (b c : Bool) → b ≡ isWord word sheetWord → b ≡ false → c ≡ isWord word helpWord → c ≡ true → Of Help ≡ commandOf word
-  unfolding commandOf
-  is-help b c e n f y =
-      ap (λ (t : Bool). cond t (Of Help) NoCommand) (sym y ∙ f)
-      ∙ ap (λ (t : Bool). cond t (Of Sheet) (cond (isWord word helpWord) (Of Help) NoCommand)) (sym n ∙ e)
-
-  pub is-none : (b c : Bool) → b ≡ isWord word sheetWord → b ≡ false → c ≡ isWord word helpWord → c ≡ false → NoCommand ≡ commandOf word
-  unfolding commandOf
-  is-none b c e n f m =
-      ap (λ (t : Bool). cond t (Of Help) NoCommand) (sym m ∙ f)
-      ∙ ap (λ (t : Bool). cond t (Of Sheet) (cond (isWord word helpWord) (Of Help) NoCommand)) (sym n ∙ e)
+  pub other-name : (name : List ℕ) (b : Bool) (x y r : MaybeCommand) → b ≡ isWord word name → b ≡ false → r ≡ y → r ≡ cond (isWord word name) x y
+  other-name name b x y r e h p = p ∙ ap (λ (t : Bool). cond t x y) (sym h ∙ e)
 
   pub from-file : (file : Source) (b t : Bool) → b ≡ isWord word dash → b ≡ t → cond t StandardInput file ≡ sourceOf word file
   unfolding sourceOf

@@ -6,7 +6,7 @@ use lib.Dec.{eqb}
 use lib.ListN.{length, getD}
 use Rattle.lists.specs.Every.{everyTo}
 use Rattle.arguments.specs.declared.Command.{Command}
-use Rattle.arguments.specs.declared.Command.the-variants.{Sheet, Help}
+use Rattle.arguments.specs.declared.Command.the-variants.{Sheet, Coach, Help}
 use Rattle.arguments.specs.declared.MaybeCommand.{MaybeCommand}
 use Rattle.arguments.specs.declared.MaybeCommand.the-variants.{NoCommand, Of}
 use Rattle.arguments.specs.declared.Source.{Source}
@@ -22,6 +22,10 @@ isWord word name = eqb (length word) (length name) && everyTo (length word) (λ 
 abbrev pub sheetWord : List ℕ
 sheetWord = 115 ∷ 104 ∷ 101 ∷ 101 ∷ 116 ∷ []
 
+-- "coach"
+abbrev pub coachWord : List ℕ
+coachWord = 99 ∷ 111 ∷ 97 ∷ 99 ∷ 104 ∷ []
+
 -- "help"
 abbrev pub helpWord : List ℕ
 helpWord = 104 ∷ 101 ∷ 108 ∷ 112 ∷ []
@@ -32,7 +36,7 @@ dash = 45 ∷ []
 
 -- the command that a word is, or none
 unfoldable pub commandOf : List ℕ → MaybeCommand
-commandOf word = cond (isWord word sheetWord) (Of Sheet) (cond (isWord word helpWord) (Of Help) NoCommand)
+commandOf word = cond (isWord word sheetWord) (Of Sheet) (cond (isWord word coachWord) (Of Coach) (cond (isWord word helpWord) (Of Help) NoCommand))
 
 -- standard input for "-", otherwise the file of that name
 unfoldable pub sourceOf : List ℕ → Source → Source

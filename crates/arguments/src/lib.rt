@@ -6,6 +6,7 @@ ghost use Rattle.arguments.specs.Arguments as Spec;
 // The commands, those that `judge help` lists.
 pub enum Command {
     Sheet,
+    Coach,
     Help,
 }
 
@@ -49,6 +50,9 @@ pub fn command_of(word: &[u8]) -> MaybeCommand
 {
     if is_word(word, b"sheet") {
         return MaybeCommand::Of(Command::Sheet);
+    }
+    if is_word(word, b"coach") {
+        return MaybeCommand::Of(Command::Coach);
     }
     if is_word(word, b"help") {
         return MaybeCommand::Of(Command::Help);

@@ -1,5 +1,5 @@
--- The avoidance region of a free kick: when it is in effect, and who is in it. Definitions only.
-use mathlib.Core.Bool.{Bool, true, false, not, _&&_, _||_}
+-- The avoidance region of a free kick: when it is in effect, who is in it, and by which test. Definitions only.
+use mathlib.Core.Bool.{Bool, true, false, not, _&&_}
 use lib.Ieee.{Float, neg, le}
 use Rattle.floats.specs.Arithmetic.{_+₃₂_, _-₃₂_, _*₃₂_, half}
 use Rattle.floats.specs.Leaves.{abs}
@@ -22,6 +22,9 @@ use Rattle.game.specs.declared.SetPlay.{SetPlay}
 use Rattle.game.specs.declared.SetPlay.the-variants.{NoSetPlay, KickOff, DirectFreeKick, IndirectFreeKick, PenaltyKick, ThrowIn, GoalKick, CornerKick}
 use Rattle.game.specs.declared.Side.{Side}
 use Rattle.geometry.specs.Geometry.{sideToSign, teamX, isOnOwnGoalLine, inCircle, isInside}
+use Rattle.conditions.specs.Conditions.{firstOf, isAvoidance}
+use Rattle.conditions.specs.declared.Condition.{Condition}
+use Rattle.conditions.specs.declared.Condition.the-variants.{NoCondition, NearBall, InGoalKickArea, InAreaOfBall}
 
 -- there is a side
 abbrev pub isSome : MaybeSide → Bool
@@ -58,24 +61,28 @@ isAvoidanceRegionActive g = not (isShootout (g .phase)) && isPlaying (g .state) 
 abbrev pub isBallInOwnPenaltyArea : Ball → FieldDimensions → Float → Bool
 isBallInOwnPenaltyArea b f sign = le (sign *₃₂ b .x) (neg (f .length) *₃₂ half +₃₂ f .«penalty_area_length») && le (abs (b .y)) (f .«penalty_area_width» *₃₂ half)
 
--- The circle about the ball; at a goal kick the kicking team's penalty area too; and the player's own penalty area, if the ball is in it. A player on its own goal line is exempt.
-unfoldable pub isInRegion : SetPlay → FieldDimensions → Ball → Float → PlayerPose → Margins → Bool
-isInRegion play f b sign p m =
-    not (isOnOwnGoalLine (teamX sign p) p f)
-    && (inCircle (hypot (p .x -₃₂ b .x) (p .y -₃₂ b .y)) f p
-    || (isGoalKick play && isInside (m .«opponent_penalty_area»))
-    || (isBallInOwnPenaltyArea b f sign && isInside (m .«own_penalty_area»)))
+-- near the ball; at a goal kick in the kicking side's penalty area; in its own penalty area as the ball is. A player on its own goal line is exempt.
+unfoldable pub regionCondition : SetPlay → FieldDimensions → Ball → Float → PlayerPose → Margins → Condition
+regionCondition play f b sign p m =
+    firstOf (isOnOwnGoalLine (teamX sign p) p f) NoCondition
+    (firstOf (inCircle (hypot (p .x -₃₂ b .x) (p .y -₃₂ b .y)) f p) NearBall
+    (firstOf (isGoalKick play && isInside (m .«opponent_penalty_area»)) InGoalKickArea
+    (firstOf (isBallInOwnPenaltyArea b f sign && isInside (m .«own_penalty_area»)) InAreaOfBall NoCondition)))
 
 -- the same where pose and margins are there
-abbrev pub isSeenInRegion : SeenPose → MaybeMargins → Game → FieldDimensions → Ball → Side → Bool
-isSeenInRegion Absent m g f b side = false
-isSeenInRegion (Present p) NoMargins g f b side = false
-isSeenInRegion (Present p) (Known m) g f b side = isInRegion (g .«set_play») f b (sideToSign side (g .sides)) p m
+abbrev pub seenRegionCondition : SeenPose → MaybeMargins → Game → FieldDimensions → Ball → Side → Condition
+seenRegionCondition Absent m g f b side = NoCondition
+seenRegionCondition (Present p) NoMargins g f b side = NoCondition
+seenRegionCondition (Present p) (Known m) g f b side = regionCondition (g .«set_play») f b (sideToSign side (g .sides)) p m
 
 -- an unpenalised player of the side against which the kick is taken
 abbrev pub mustAvoid : Game → Side → Penalty → Bool
 mustAvoid g side penalty = isAvoidanceRegionActive g && isSide (g .«kicking_side») (opponent side) && isUnpenalized penalty
 
--- a player that has to keep out of the region is in it
+-- the condition by which a player that has to keep out of the region is in it
+unfoldable pub avoidanceCondition : Game → FieldDimensions → Ball → Side → Player → MaybeMargins → Condition
+avoidanceCondition g f b side player m = firstOf (mustAvoid g side (player .penalty)) (seenRegionCondition (player .pose) m g f b side) NoCondition
+
+-- a player that has to keep out of the region is in it: one of the three conditions is told
 unfoldable pub isInAvoidanceRegion : Game → FieldDimensions → Ball → Side → Player → MaybeMargins → Bool
-isInAvoidanceRegion g f b side player m = mustAvoid g side (player .penalty) && isSeenInRegion (player .pose) m g f b side
+isInAvoidanceRegion g f b side player m = isAvoidance (avoidanceCondition g f b side player m)

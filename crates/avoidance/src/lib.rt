@@ -1,13 +1,13 @@
-// The avoidance region of a free kick: when it is in effect, and who is in it.
+// The avoidance region of a free kick: when it is in effect, who is in it, and by which test.
 ghost use mathlib.Core.Path.{_≡_};
 ghost use Rattle.avoidance.specs.Avoidance as Spec;
+use conditions::Condition;
 use game::Ball;
 use game::FieldDimensions;
 use game::Game;
 use game::Margins;
 use game::MaybeMargins;
 use game::MaybeSide;
-use game::Penalty;
 use game::Player;
 use game::PlayerPose;
 use game::SeenPose;
@@ -71,73 +71,69 @@ pub fn is_avoidance_region_active(game: Game) -> bool
     !shootout & playing & !game.stopped & kicked & region
 }
 
-// Whether the ball is in the penalty area of the team with this sign.
-fn is_ball_in_own_penalty_area(ball: Ball, field: FieldDimensions, sign: f32) -> bool
-    ensures { λ r. ⌜ r ≡ Spec.isBallInOwnPenaltyArea ball field sign ⌝ }
-{
-    let ball_team_x = sign * ball.x;
-    let y = floats::abs(ball.y);
-    (ball_team_x <= -field.length * 0.5 + field.penalty_area_length)
-        & (y <= field.penalty_area_width * 0.5)
-}
-
-// Whether a player at this pose is in the avoidance region. One on its own goal line is exempt.
-fn is_in_region(
+// The first test by which a player at this pose is in the avoidance region. For one on its own goal line, which is exempt, no distance is computed.
+fn region_condition(
     set_play: SetPlay,
     field: FieldDimensions,
     ball: Ball,
     sign: f32,
     pose: PlayerPose,
     margins: Margins,
-) -> bool
-    ensures { λ r. ⌜ r ≡ Spec.isInRegion «set_play» field ball sign pose margins ⌝ }
+) -> Condition
+    ensures { λ r. ⌜ r ≡ Spec.regionCondition «set_play» field ball sign pose margins ⌝ }
 {
-    let exempt = geometry::is_on_own_goal_line(sign * pose.x, pose, field);
+    if geometry::is_on_own_goal_line(sign * pose.x, pose, field) {
+        return Condition::NoCondition;
+    }
     let distance = hypot::hypot(pose.x - ball.x, pose.y - ball.y);
-    let near = distance < field.center_circle_radius + pose.radius;
+    if distance < field.center_circle_radius + pose.radius {
+        return Condition::NearBall;
+    }
     let goal_kick = is_goal_kick(set_play);
-    let ball_in_area = is_ball_in_own_penalty_area(ball, field, sign);
-    !exempt
-        & (near
-            | (goal_kick & (margins.opponent_penalty_area > 0.0))
-            | (ball_in_area & (margins.own_penalty_area > 0.0)))
+    let ball_team_x = sign * ball.x;
+    let ball_y = floats::abs(ball.y);
+    let ball_in_area = (ball_team_x <= -field.length * 0.5 + field.penalty_area_length)
+        & (ball_y <= field.penalty_area_width * 0.5);
+    if goal_kick & (margins.opponent_penalty_area > 0.0) {
+        return Condition::InGoalKickArea;
+    }
+    if ball_in_area & (margins.own_penalty_area > 0.0) {
+        return Condition::InAreaOfBall;
+    }
+    Condition::NoCondition
 }
 
-// The same where pose and margins are there.
-fn is_seen_in_region(
+// The test by which a player of the defending team is in the avoidance region of a free kick.
+pub fn avoidance_condition(
     game: Game,
     field: FieldDimensions,
     ball: Ball,
     side: Side,
-    pose: SeenPose,
+    player: Player,
     margins: MaybeMargins,
-) -> bool
-    ensures { λ r. ⌜ r ≡ Spec.isSeenInRegion pose margins game field ball side ⌝ }
+) -> Condition
+    ensures { λ r. ⌜ r ≡ Spec.avoidanceCondition game field ball side player margins ⌝ }
 {
-    match pose {
-        SeenPose::Absent => false,
-        SeenPose::Present(p) => match margins {
-            MaybeMargins::NoMargins => false,
-            MaybeMargins::Known(m) => {
-                let sides = game.sides;
-                let set_play = game.set_play;
-                let sign = geometry::side_to_sign(side, sides);
-                is_in_region(set_play, field, ball, sign, p, m)
-            }
-        },
-    }
-}
-
-// Whether a player of this side has to keep out of an avoidance region.
-fn must_avoid(game: Game, side: Side, penalty: Penalty) -> bool
-    ensures { λ r. ⌜ r ≡ Spec.mustAvoid game side penalty ⌝ }
-{
+    let penalty = player.penalty;
+    let pose = player.pose;
+    let sides = game.sides;
+    let set_play = game.set_play;
     let kicking_side = game.kicking_side;
     let active = is_avoidance_region_active(game);
     let other = game::opponent(side);
     let defending = game::is_side(kicking_side, other);
     let unpenalized = game::is_unpenalized(penalty);
-    active & defending & unpenalized
+    if !(active & defending & unpenalized) {
+        return Condition::NoCondition;
+    }
+    let SeenPose::Present(p) = pose else {
+        return Condition::NoCondition;
+    };
+    let MaybeMargins::Known(m) = margins else {
+        return Condition::NoCondition;
+    };
+    let sign = geometry::side_to_sign(side, sides);
+    region_condition(set_play, field, ball, sign, p, m)
 }
 
 // Whether a player of the defending team is in the avoidance region of a free kick.
@@ -151,11 +147,6 @@ pub fn is_in_avoidance_region(
 ) -> bool
     ensures { λ r. ⌜ r ≡ Spec.isInAvoidanceRegion game field ball side player margins ⌝ }
 {
-    let penalty = player.penalty;
-    let pose = player.pose;
-    let must = must_avoid(game, side, penalty);
-    if must {
-        return is_seen_in_region(game, field, ball, side, pose, margins);
-    }
-    false
+    let condition = avoidance_condition(game, field, ball, side, player, margins);
+    conditions::is_avoidance(condition)
 }

@@ -1,10 +1,9 @@
 -- Every sheet has room in 7,470 bytes. Assumes nothing.
-use mathlib.Core.Path.{_≡_, ap, _∙_}
-use mathlib.Core.Bool.{Bool, cond}
+use mathlib.Core.Path.{_≡_, _∙_}
 use mathlib.Core.List.{List}
 use Prim.Native.Nat.{ℕ, _≤_}
 use native.Mathlib.Omega.{arith}
-use borrow.Author.Tests.{eq-eqb}
+use borrow.Author.Tests.{eq-eqb, le-ltb}
 use lib.Ieee.{Float}
 use lib.ListN.{length}
 use Rattle.game.specs.Players.{teamOf}
@@ -14,12 +13,11 @@ use Rattle.game.specs.declared.Situation.{Situation}
 use Rattle.refusals.specs.Refusals.{refusalOf}
 use Rattle.decision.specs.Decision.{sideMargins, teamDecision, sideDecision, decisionOf}
 use Rattle.decision.proofs.Few.{moved-few, leaving-few, excess-few}
-use Rattle.sheet.specs.Sheet.{textOf, decisionAnswer}
-use Rattle.sheet.specs.declared.text.SheetAnswer.the-variants.{Refused, Written}
-use Rattle.sheet.proofs.Answers.{answer-fits}
+use Rattle.sheet.specs.Sheet.{textOf}
+use Rattle.sheet.specs.declared.text.SheetAnswer.the-variants.{Written}
 use Rattle.sheet.proofs.Room.{Short, text-few}
 use Rattle.call.specs.Call.{sheetAnswer}
-use Rattle.call.proofs.Answers.{answer-told}
+use Rattle.call.proofs.Answers.{answer-cases}
 
 side-short : (s : Situation) (side : Side) → Short (sideDecision s side)
 unfolding sideDecision teamDecision
@@ -37,6 +35,4 @@ text-room s xs ys = text-few (decisionOf s xs ys) (side-short s Home) (side-shor
 -- 7,470 bytes are never too few: what is not refused for itself is written
 pub room-enough : (s : Situation) (xs ys : List Float) (lent : ℕ) → 7470 ≤ lent → refusalOf s xs ys ≡ 0 → sheetAnswer s xs ys lent ≡ Written (length (textOf (decisionOf s xs ys)))
 room-enough s xs ys lent h e =
-    answer-told s xs ys lent
-    ∙ ap (λ (b : Bool). cond b (decisionAnswer (decisionOf s xs ys) lent) (Refused (refusalOf s xs ys))) (eq-eqb (refusalOf s xs ys) 0 e)
-    ∙ answer-fits (decisionOf s xs ys) lent (omega (arith, text-room s xs ys, h))
+    answer-cases s xs ys lent ∙ simp (eq-eqb (refusalOf s xs ys) 0 e, le-ltb lent (length (textOf (decisionOf s xs ys))) (omega (arith, text-room s xs ys, h)))

@@ -1,7 +1,9 @@
-// The call: refuses a situation, or decides on it and writes the sheet.
+// The call: refuses a situation, or decides on it and writes the sheet, or the coach's lines.
 ghost use mathlib.Core.Path.{_≡_};
 ghost use lib.ListN.{length};
+ghost use Rattle.coach.specs.Coach.{sentenceAnswer, sentenceAfter, sentencesAnswer, sentencesAfter};
 ghost use Rattle.call.specs.Call as Spec;
+use game::Side;
 use game::Situation;
 use sheet::SheetAnswer;
 
@@ -17,4 +19,36 @@ pub fn write_sheet<'a>(s: Situation, xs: &'a [f32], ys: &'a [f32], sheet: &mut [
     }
     let d = decision::decision_of(s, xs, ys);
     sheet::write_decision(d, sheet)
+}
+
+// Writes the coach's line on the player of a side with a number at the front of the lent text; the bytes after it are kept. Answers the line's length, 0 for a player that stands
+// legally. A refusal, 1 to 5 and then 8, keeps every byte.
+pub fn write_sentence<'a>(
+    s: Situation,
+    xs: &'a [f32],
+    ys: &'a [f32],
+    side: Side,
+    number: u32,
+    text: &mut [u8],
+) -> SheetAnswer
+    ensures { λ r. ⌜ r ≡ sentenceAnswer s (now (xs .entry)) (now (ys .entry)) side number (length (now (text .entry))) ⌝ }
+    ensures { λ _. ⌜ now (text .exit) ≡ sentenceAfter s (now (xs .entry)) (now (ys .entry)) side number (now (text .entry)) ⌝ }
+{
+    let refusal = refusals::refusal(s, xs, ys);
+    coach::write_sentence(refusal, s, side, number, text)
+}
+
+// Writes the coach's lines on all players of a situation that do not stand legally at the front of the lent bytes, in the order of the sheet, each with a line feed; the bytes
+// after them are kept. A refusal, 1 to 5 and then 8, keeps them all.
+pub fn write_sentences<'a>(
+    s: Situation,
+    xs: &'a [f32],
+    ys: &'a [f32],
+    text: &mut [u8],
+) -> SheetAnswer
+    ensures { λ r. ⌜ r ≡ sentencesAnswer s (now (xs .entry)) (now (ys .entry)) (length (now (text .entry))) ⌝ }
+    ensures { λ _. ⌜ now (text .exit) ≡ sentencesAfter s (now (xs .entry)) (now (ys .entry)) (now (text .entry)) ⌝ }
+{
+    let refusal = refusals::refusal(s, xs, ys);
+    coach::write_sentences(refusal, s, text)
 }

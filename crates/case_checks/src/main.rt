@@ -1,4 +1,4 @@
-// Compares document 01's cases, and inputs that are no situation, with what the code gives. The list of standard input has the form of the crate `records`, and
+// Compares document 01's cases, the coach's lines, and inputs that are no situation, with what the code gives. The list of standard input has the form of the crate `records`, and
 // README.md says what its records are. Writes a line for each record that does not agree, and last how many agree of how many.
 mod sheets;
 
@@ -34,8 +34,9 @@ fn agrees(list: &[u8], r: Record) -> bool
     let answer = &list[middle..end];
     let kind = r.kind;
     match kind {
-        1..=2 => sheets::judged(kind, input, r.lent, answer),
-        10..=17 => sheets::called(input, r.lent, kind - 10, answer),
+        1..=4 => sheets::judged(kind, input, r.lent, answer),
+        10..=17 => sheets::called(false, input, r.lent, kind - 10, answer),
+        20..=28 => sheets::called(true, input, r.lent, kind - 20, answer),
         _ => false,
     }
 }

@@ -1,4 +1,4 @@
-// What records have: a text that the program `judge` reads, or words for the library's entry.
+// What records have: a text that the program `judge` reads, or words for the library's calls.
 ghost use Prim.Native.Nat.{_≤_};
 use desk::Reply;
 use numbers::Reading;
@@ -10,20 +10,30 @@ const FILL: u8 = 170;
 // More bytes than a record lends.
 const MOST: usize = 7680;
 
-// The numbers of an input: 563 words, how many earlier x and y there are, and the pattern of each of these.
-const NUMBERS: usize = 566;
+// The numbers of an input: 563 words, how many earlier x and y there are, and the pattern of each of these; for a coach's line the side and the number of a player after them.
+const SHEET_NUMBERS: usize = 566;
 
-// Whether this is told for the input, with so many bytes lent, where the kind is 1, or answered where it is 2, and all other bytes are kept.
+const NUMBERS: usize = 568;
+
+// What `judge` prints for a text, where the kind is at most 2, or `judge coach`.
+fn replied(kind: u32, text: &[u8], out: &mut [u8]) -> Reply {
+    if kind <= 2 {
+        return desk::judge(text, out);
+    }
+    desk::coach(text, out)
+}
+
+// Whether this is told for the input, with so many bytes lent, where the kind is 1 or 3, or answered where it is 2 or 4, and all other bytes are kept.
 pub(crate) fn judged(kind: u32, input: &[u8], lent: usize, answer: &[u8]) -> bool {
     if MOST < lent {
         return false;
     }
     let mut bytes = [FILL; MOST];
-    let reply = desk::judge(input, &mut bytes[..lent]);
+    let reply = replied(kind, input, &mut bytes[..lent]);
     let kept = records::holds(&bytes, answer, FILL);
     match reply {
-        Reply::Answer(n) => kept & (n == answer.len()) & (kind == 2),
-        Reply::Told(n) => kept & (n == answer.len()) & (kind == 1),
+        Reply::Answer(n) => kept & (n == answer.len()) & (kind % 2 == 0),
+        Reply::Told(n) => kept & (n == answer.len()) & (kind % 2 == 1),
     }
 }
 
@@ -35,7 +45,7 @@ fn count_of(number: u32) -> usize
     if n < 4097 { n } else { 4097 }
 }
 
-// Whether the answer is this refusal, or, where it is 0, a sheet of so many bytes.
+// Whether the answer is this refusal, or, where it is 0, a text of so many bytes.
 fn is_answer(answer: SheetAnswer, refusal: u32, size: usize) -> bool {
     match answer {
         SheetAnswer::Refused(n) => (n as u32 == refusal) & (n != 0),
@@ -43,30 +53,46 @@ fn is_answer(answer: SheetAnswer, refusal: u32, size: usize) -> bool {
     }
 }
 
-// The call for these numbers, on the front of the bytes.
-fn call(numbers: &[u32; NUMBERS], bytes: &mut [u8], lent: usize) -> SheetAnswer {
+// The call for these numbers, of the sheet or of a coach's line.
+fn written<'a>(
+    coach: bool,
+    numbers: &[u32; NUMBERS],
+    xs: &'a [f32],
+    ys: &'a [f32],
+    out: &mut [u8],
+) -> SheetAnswer {
+    let s = words::situation_of(numbers);
+    if coach {
+        let side = words::side_of(numbers[566]);
+        return call::write_sentence(s, xs, ys, side, numbers[567], out);
+    }
+    call::write_sheet(s, xs, ys, out)
+}
+
+// The same on the front of the bytes.
+fn call(coach: bool, numbers: &[u32; NUMBERS], bytes: &mut [u8], lent: usize) -> SheetAnswer {
     let place = floats::from_bits(numbers[565]);
     let xs = [place; 4097];
     let ys = [place; 4097];
     let nx = count_of(numbers[563]);
     let ny = count_of(numbers[564]);
-    let s = words::situation_of(numbers);
     if lent <= bytes.len() {
-        return call::write_sheet(s, &xs[..nx], &ys[..ny], &mut bytes[..lent]);
+        return written(coach, numbers, &xs[..nx], &ys[..ny], &mut bytes[..lent]);
     }
     SheetAnswer::Refused(0)
 }
 
-// Whether the call for the numbers of the input gives this refusal, or, where it is 0, this sheet, and all other bytes are kept.
-pub(crate) fn called(input: &[u8], lent: usize, refusal: u32, sheet: &[u8]) -> bool {
+// Whether the call for the numbers of the input gives this refusal, or, where it is 0, this text, and all other bytes are kept.
+pub(crate) fn called(coach: bool, input: &[u8], lent: usize, refusal: u32, text: &[u8]) -> bool {
     let mut numbers = [0u32; NUMBERS];
     let reading = numbers::read_numbers(input, &mut numbers);
     let Reading::Read(n) = reading else {
         return false;
     };
     let mut bytes = [FILL; MOST];
-    let answer = call(&numbers, &mut bytes, lent);
-    let right = is_answer(answer, refusal, sheet.len());
-    let kept = records::holds(&bytes, sheet, FILL);
-    right & kept & (n == NUMBERS)
+    let answer = call(coach, &numbers, &mut bytes, lent);
+    let right = is_answer(answer, refusal, text.len());
+    let kept = records::holds(&bytes, text, FILL);
+    let size = if coach { NUMBERS } else { SHEET_NUMBERS };
+    right & kept & (n == size)
 }

@@ -7,8 +7,8 @@ use Rattle.hypot.specs.Hypot.{hypot}
 use Rattle.floats.specs.Leaves.{negative, withSign, minimumNumber, maximumNumber, clamp, totalKey}
 use Rattle.game.specs.Players.{listed, numbersWhere}
 use Rattle.geometry.specs.Geometry.{marginsOf, computeMargins}
-use Rattle.avoidance.specs.Avoidance.{isInAvoidanceRegion, isAvoidanceRegionActive}
-use Rattle.positioning.specs.Positioning.{isIllegallyPositioned, kickOffVerdict, attackVerdict, defenceVerdict}
+use Rattle.avoidance.specs.Avoidance.{isAvoidanceRegionActive, regionCondition, avoidanceCondition}
+use Rattle.positioning.specs.Positioning.{isIllegallyPositioned, conditionOf, kickOffCondition, attackCondition, defenceCondition, penaltyKickCondition}
 use Rattle.tries.specs.Tries.{crossed, candidatesTo, unfit, firstCandidate}
 use Rattle.lists.specs.Counting.{countTo, firstTo}
 use Rattle.counts.specs.Counts.{playersOnField}
@@ -32,7 +32,7 @@ floats = tt
 
 -- an answer, down to the floats
 unfoldable pub answers : Unit {0}
-unfolding floats everyTo flatTo fronted listed numbersWhere marginsOf computeMargins isIllegallyPositioned isInAvoidanceRegion isAvoidanceRegionActive kickOffVerdict attackVerdict defenceVerdict crossed candidatesTo unfit firstCandidate countTo firstTo playersOnField goalAreaExcess determineKickingPlayer movedPlayers referencesAfter ballJudgment ballAtRestart ballInSet penaltyShotPlace placeForPenalty poseFits refusalOf teamVerdicts emptyList teamExcess kickingPlayer leavingPlayers ballCalledAmong ballCalled wishedPlace teamMargins teamDecision sideMargins sideDecision decisionOf answerOf
+unfolding floats everyTo flatTo fronted listed numbersWhere marginsOf computeMargins isIllegallyPositioned conditionOf avoidanceCondition regionCondition isAvoidanceRegionActive kickOffCondition attackCondition defenceCondition penaltyKickCondition crossed candidatesTo unfit firstCandidate countTo firstTo playersOnField goalAreaExcess determineKickingPlayer movedPlayers referencesAfter ballJudgment ballAtRestart ballInSet penaltyShotPlace placeForPenalty poseFits refusalOf teamVerdicts emptyList teamExcess kickingPlayer leavingPlayers ballCalledAmong ballCalled wishedPlace teamMargins teamDecision sideMargins sideDecision decisionOf answerOf
 answers = tt
 
 -- a sheet, down to the floats

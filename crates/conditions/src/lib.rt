@@ -29,6 +29,10 @@ pub enum Condition {
     InAreaOfBall,
 }
 
+pub struct PlayerCondition {
+    pub condition: Condition,
+}
+
 // The verdict that a condition settles.
 pub fn verdict_of(condition: Condition) -> Positioning
     ensures { λ r. ⌜ r ≡ Spec.verdictOf condition ⌝ }
@@ -50,5 +54,53 @@ pub fn verdict_of(condition: Condition) -> Positioning
         Condition::InOwnPenaltyArea => Positioning::Illegal,
         Condition::BehindOwnMark => Positioning::Illegal,
         Condition::NearOwnMark => Positioning::Illegal,
+    }
+}
+
+// Whether a condition is one of the three of the avoidance region.
+pub fn is_avoidance(condition: Condition) -> bool
+    ensures { λ r. ⌜ r ≡ Spec.isAvoidance condition ⌝ }
+{
+    match condition {
+        Condition::NoCondition => false,
+        Condition::OnCenterMark => false,
+        Condition::OutsideCircle => false,
+        Condition::InCircle => false,
+        Condition::InOpponentHalf => false,
+        Condition::InCenterCircle => false,
+        Condition::OnPenaltyMark => false,
+        Condition::BeyondPenaltyMark => false,
+        Condition::InOpponentPenaltyArea => false,
+        Condition::NearPenaltyMark => false,
+        Condition::InOwnPenaltyArea => false,
+        Condition::BehindOwnMark => false,
+        Condition::NearOwnMark => false,
+        Condition::NearBall => true,
+        Condition::InGoalKickArea => true,
+        Condition::InAreaOfBall => true,
+    }
+}
+
+// Whether there is a condition, so that the verdict is other than Legal.
+pub fn is_some(condition: Condition) -> bool
+    ensures { λ r. ⌜ r ≡ Spec.isSome condition ⌝ }
+{
+    match condition {
+        Condition::NoCondition => false,
+        Condition::OnCenterMark => true,
+        Condition::OutsideCircle => true,
+        Condition::InCircle => true,
+        Condition::InOpponentHalf => true,
+        Condition::InCenterCircle => true,
+        Condition::OnPenaltyMark => true,
+        Condition::BeyondPenaltyMark => true,
+        Condition::InOpponentPenaltyArea => true,
+        Condition::NearPenaltyMark => true,
+        Condition::InOwnPenaltyArea => true,
+        Condition::BehindOwnMark => true,
+        Condition::NearOwnMark => true,
+        Condition::NearBall => true,
+        Condition::InGoalKickArea => true,
+        Condition::InAreaOfBall => true,
     }
 }

@@ -33,11 +33,15 @@ use Rattle.decision.proofs.Parts.{Parts, parts, accepted-in-range}
 use Rattle.decision.proofs.Sides.{team-of-changed, side-margins-changed, side-same, kicking-changed}
 
 -- ---- the changed situation is accepted as the situation is
-pub refusal-changed : (a b : Bool) (s : Situation) (xs ys : List Float) → refusalOf (changed a b s) (changedPlaces a xs) (changedPlaces b ys) ≡ refusalOf s xs ys
-unfolding refusalOf requirementsOf
-refusal-changed a b s xs ys =
-    ap₂ (λ (p o : Bool). firstRefusal (five (fieldFits (s .field)) p o (numbersFit (s .home .goalkeeper) (s .away .goalkeeper) (s .restart) (s .wish)) (distanceFits (s .«penalty_placement_distance»))))
+pub requirements-changed : (a b : Bool) (s : Situation) (xs ys : List Float) → requirementsOf (changed a b s) (changedPlaces a xs) (changedPlaces b ys) ≡ requirementsOf s xs ys
+unfolding requirementsOf
+requirements-changed a b s xs ys =
+    ap₂ (λ (p o : Bool). five (fieldFits (s .field)) p o (numbersFit (s .home .goalkeeper) (s .away .goalkeeper) (s .restart) (s .wish)) (distanceFits (s .«penalty_placement_distance»)))
     (poses-fit-changed a b (s .home) (s .away) xs ys) (ball-fits-changed a b (s .ball))
+
+pub refusal-changed : (a b : Bool) (s : Situation) (xs ys : List Float) → refusalOf (changed a b s) (changedPlaces a xs) (changedPlaces b ys) ≡ refusalOf s xs ys
+unfolding refusalOf
+refusal-changed a b s xs ys = ap firstRefusal (requirements-changed a b s xs ys)
 
 -- ---- the parts of a decision
 module _ (a b : Bool) (s : Situation) (xs ys : List Float) (p : Parts s) where

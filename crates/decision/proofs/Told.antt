@@ -7,6 +7,9 @@ use Prim.Native.Nat.{ℕ}
 use borrow.Author.Tests.{eq-eqb, ne-eqb}
 use lib.Dec.{eqb}
 use lib.Ieee.{Float}
+use lib.ListN.{getD, replicate}
+use Rattle.lists.specs.Table.{table}
+use Rattle.lists.proofs.Table.{table-at, table-same}
 use Rattle.game.specs.Game.{isPlaying}
 use Rattle.game.specs.declared.Ball.{Ball}
 use Rattle.game.specs.declared.FieldDimensions.{FieldDimensions}
@@ -22,7 +25,13 @@ use Rattle.game.specs.declared.Side.the-variants.{Home, Away}
 use Rattle.game.specs.declared.Situation.{Situation}
 use Rattle.game.specs.declared.Team.{Team}
 use Rattle.game.specs.declared.Positioning.{Positioning}
+use Rattle.game.specs.declared.Positioning.the-variants.{Legal}
 use Rattle.game.specs.Players.{playerNumbered}
+use Rattle.conditions.specs.Conditions.{verdictOf}
+use Rattle.conditions.specs.declared.Condition.the-variants.{NoCondition}
+use Rattle.conditions.specs.declared.PlayerCondition.{PlayerCondition}
+use Rattle.positioning.specs.Positioning.{conditionAt, teamConditions, isJudging, isIllegallyPositioned}
+use Rattle.positioning.proofs.Judging.{none-judged}
 use Rattle.places.specs.Places.{penaltyShotPlace, penaltyGoalkeeperPlace}
 use Rattle.counts.specs.Counts.{playersOnField}
 use Rattle.excess.specs.Excess.{goalAreaExcess}
@@ -32,9 +41,11 @@ use Rattle.game.specs.declared.BallJudgment.{BallJudgment}
 use Rattle.game.specs.declared.PlayerReference.{PlayerReference}
 use Rattle.game.specs.declared.Placement.{Placement}
 use Rattle.refusals.specs.Refusals.{refusalOf}
-use Rattle.decision.specs.Decision.{teamVerdicts, isExcessAsked, emptyList, teamExcess, leavingPlayers, kickerNumbered, kickerIfAny, kickingPlayer, ballCalledAmong, ballCalled, wishedPlace, teamMargins, teamDecision, sideMargins, sideDecision, decisionOf, emptyDecision, answerOf}
+use Rattle.decision.specs.Decision.{verdictAt, teamVerdicts, isExcessAsked, emptyList, teamExcess, leavingPlayers, kickerNumbered, kickerIfAny, kickingPlayer, ballCalledAmong, ballCalled, wishedPlace, teamMargins, teamDecision, sideMargins, sideDecision, decisionOf, emptyDecision, answerOf}
 use Rattle.game.specs.declared.SideDecision.{SideDecision}
 use Rattle.game.specs.declared.Decision.{Decision}
+use Rattle.seen.specs.Seen.{sideSeen}
+use Rattle.seen.specs.declared.Seen.{Seen}
 use Rattle.decision.specs.declared.call.Answer.{Answer}
 use Rattle.game.specs.declared.PlayerVerdict.{PlayerVerdict}
 use Rattle.game.specs.declared.KickingPlayer.{KickingPlayer}
@@ -42,6 +53,31 @@ use Rattle.game.specs.declared.KickingPlayer.{KickingPlayer}
 -- ---- a verdict
 pub verdict-told : (v w : Positioning) → v ≡ w → _≡_ {A = PlayerVerdict} (record { verdict = v }) (record { verdict = w })
 verdict-told v w e = ap (λ (z : Positioning). record { verdict = z }) e
+
+-- that of the condition at a place
+abbrev pub verdictBy : List PlayerCondition → ℕ → PlayerVerdict
+verdictBy conditions k = record { verdict = verdictOf (getD conditions k (record { condition = NoCondition }) .condition) }
+
+pub verdicts-told : (g : Game) (f : FieldDimensions) (b : Ball) (side : Side) (t : Team) (margins : List PlayerMargins) (conditions : List PlayerCondition) (out : List PlayerVerdict) → conditions ≡ teamConditions g f b side t margins → out ≡ table 20 (verdictBy conditions)
+    → out ≡ teamVerdicts g f b side t margins
+unfolding teamVerdicts teamConditions isIllegallyPositioned
+verdicts-told g f b side t margins conditions out e p =
+    p
+    ∙ ap (λ (l : List PlayerCondition). table 20 (verdictBy l)) e
+    ∙ table-same 20 (verdictBy (teamConditions g f b side t margins)) (verdictAt g f b side t margins) (λ k h. ap (λ (c : PlayerCondition). record { verdict = verdictOf (c .condition) }) (table-at 20 (conditionAt g f b side t margins) (record { condition = NoCondition }) k h))
+
+pub verdicts-none : (g : Game) (f : FieldDimensions) (b : Ball) (side : Side) (t : Team) (margins : List PlayerMargins) → isJudging g ≡ false → replicate 20 (record { verdict = Legal }) ≡ teamVerdicts g f b side t margins
+verdicts-none g f b side t margins e = verdicts-told g f b side t margins (replicate 20 (record { condition = NoCondition })) (replicate 20 (record { verdict = Legal })) (none-judged g f b side t margins e) refl
+
+-- ---- what is seen of a side
+module _ (g : Game) (f : FieldDimensions) (side : Side) (t : Team) (seen : Seen) (known : seen ≡ sideSeen g f side t) where
+  pub seen-margins : seen .margins ≡ teamMargins g f side t
+  unfolding sideSeen teamMargins
+  seen-margins = ap (λ (z : Seen). z .margins) known
+
+  pub seen-count : seen .«on_field» ≡ playersOnField t
+  unfolding sideSeen
+  seen-count = ap (λ (z : Seen). z .«on_field») known
 
 -- ---- an excess list, asked or not
 module _ (g : Game) (t : Team) (margins : List PlayerMargins) where

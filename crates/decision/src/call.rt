@@ -1,6 +1,5 @@
 // A decision: every item of document 01 for one situation, or the number of the refusal.
 ghost use mathlib.Core.Path.{_≡_};
-ghost use Rattle.counts.specs.Counts.{playersOnField};
 ghost use Rattle.decision.specs.Decision as Spec;
 use game::Ball;
 use game::BallJudgment;
@@ -51,24 +50,6 @@ fn team_decision(
     }
 }
 
-// What several items use of a side: its players' margins, and how many of them are on the field.
-struct Seen {
-    margins: [PlayerMargins; 20],
-    on_field: usize,
-}
-
-// The count stands beside the margins, and not where the ball is judged, for speed: in a function that is called for each side the compiler leaves both teams where they are.
-fn side_seen(game: Game, field: FieldDimensions, side: Side, team: Team) -> Seen
-    ensures { λ r. ⌜ r .margins ≡ Spec.teamMargins game field side team ⌝ }
-    ensures { λ r. ⌜ r .«on_field» ≡ playersOnField team ⌝ }
-{
-    let sides = game.sides;
-    let sign = geometry::side_to_sign(side, sides);
-    let margins = geometry::compute_margins(team, field, sign);
-    let on_field = counts::players_on_field(team);
-    Seen { margins, on_field }
-}
-
 // The decision on a situation, item by item. Whether the situation is to be refused is asked before.
 pub fn decision_of<'a>(s: Situation, xs: &'a [f32], ys: &'a [f32]) -> Decision
     ensures { λ r. ⌜ r ≡ Spec.decisionOf s (now (xs .entry)) (now (ys .entry)) ⌝ }
@@ -78,8 +59,8 @@ pub fn decision_of<'a>(s: Situation, xs: &'a [f32], ys: &'a [f32]) -> Decision
     let b = s.ball;
     let home_team = s.home;
     let away_team = s.away;
-    let home_seen = side_seen(game, field, Side::Home, home_team);
-    let away_seen = side_seen(game, field, Side::Away, away_team);
+    let home_seen = seen::side_seen(game, field, Side::Home, home_team);
+    let away_seen = seen::side_seen(game, field, Side::Away, away_team);
     let home_margins = home_seen.margins;
     let away_margins = away_seen.margins;
     let home = team_decision(game, field, b, Side::Home, home_team, home_margins);

@@ -18,7 +18,7 @@ use game::Situation;
 use game::Team;
 use game::Wish;
 
-// The verdicts on a side's players by their places, Legal too.
+// The verdicts on a side's players by their places, Legal too. Most of a game has no set play, and then no player is looked at.
 pub fn team_verdicts(
     game: Game,
     field: FieldDimensions,
@@ -29,27 +29,18 @@ pub fn team_verdicts(
 ) -> [PlayerVerdict; 20]
     ensures { λ r. ⌜ r ≡ Spec.teamVerdicts game field ball side team margins ⌝ }
 {
-    let players = team.players;
-    let goalkeeper = team.goalkeeper;
     let legal = Positioning::Legal;
     let blank = PlayerVerdict { verdict: legal };
     let mut out = [blank; 20];
+    if !positioning::is_judging(game) {
+        return out;
+    }
+    let conditions = positioning::team_conditions(game, field, ball, side, team, margins);
     let mut i: usize = 0;
     while i < 20 {
-        let player = players[i];
-        let slot = margins[i];
-        let known = slot.margins;
-        let number = (i + 1) as u8;
-        let verdict = positioning::is_illegally_positioned(
-            game,
-            field,
-            ball,
-            side,
-            goalkeeper,
-            number,
-            player,
-            known,
-        );
+        let slot = conditions[i];
+        let condition = slot.condition;
+        let verdict = conditions::verdict_of(condition);
         out[i] = PlayerVerdict { verdict };
         i += 1;
     }

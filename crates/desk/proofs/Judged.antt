@@ -16,8 +16,8 @@ use Rattle.refusals.specs.Refusals.{refusalOf}
 use Rattle.decision.specs.Decision.{decisionOf}
 use Rattle.replies.specs.Replies.{faultLine, refusedLine, lineIn, writtenIn}
 use Rattle.replies.proofs.Places.{line-known}
-use Rattle.call.specs.Call.{sheetAnswer, sheetAfter}
-use Rattle.call.proofs.Answers.{answer-cases, after-told}
+use Rattle.call.proofs.Answers as Sheets
+use Rattle.coach.proofs.Answers as Coach
 use Rattle.sheet.specs.Sheet.{textOf}
 use Rattle.sheet.specs.declared.text.SheetAnswer.{SheetAnswer}
 use Rattle.sheet.specs.declared.text.SheetAnswer.the-variants.{Refused, Written}
@@ -33,7 +33,9 @@ use Rattle.input.proofs.Places.{parts}
 use Rattle.input.proofs.Stored.{stored-at, stored-front}
 use Rattle.desk.specs.declared.Reply.{Reply}
 use Rattle.desk.specs.declared.Reply.the-variants.{Answer, Told}
-use Rattle.desk.specs.Desk.{Printed, told, answerPrinted, situationPrinted, placesFrom, numbersPrinted, inputPrinted, judgedPrinted, printedIn, replyIn}
+use Rattle.desk.specs.declared.Wanted.{Wanted}
+use Rattle.desk.specs.declared.Wanted.the-variants.{Sheet, Sentences}
+use Rattle.desk.specs.Desk.{Printed, told, answerPrinted, wantedText, wantedAnswer, wantedAfter, situationPrinted, placesFrom, numbersPrinted, inputPrinted, textPrinted, printedIn, replyIn}
 
 -- what the code adds to bytes that already hold the sheet of the answer
 abbrev addedReply : SheetAnswer → List ℕ → Reply
@@ -57,29 +59,45 @@ pub told-printed : (text out next : List ℕ) (n : ℕ) → n ≡ writtenIn text
 unfolding replyIn printedIn
 told-printed text out next n a b = (ap Told a, b)
 
-module _ (s : Situation) (xs ys : List Float) (out : List ℕ) where
-  text : List ℕ
-  text = textOf (decisionOf s xs ys)
-
-  prints : (b f : Bool) → eqb (refusalOf s xs ys) 0 ≡ b → ltb (length out) (length text) ≡ f
-      → (let a = cond b (cond f (Refused 7) (Written (length text))) (Refused (refusalOf s xs ys)) in
+-- an answer of a text, and what the reply makes of it: the refusals r of the situation and then k, of the lent bytes
+module _ (r k : ℕ) (text out : List ℕ) where
+  prints : (b f : Bool) → ltb (length out) (length text) ≡ f
+      → (let a = cond b (cond f (Refused k) (Written (length text))) (Refused r) in
       let mid = cond b (cond f out (fronted text out)) out in
       Prints (addedReply a mid) (addedOut a mid) (answerPrinted a text) out)
-  unfolding text writtenIn frontedInto replyIn printedIn
-  prints false f eb ef = (refl, refl)
-  prints true true eb ef = (refl, refl)
-  prints true false eb ef = (ap (λ (b : Bool). Answer (cond b 0 (length text))) (sym ef), ap (λ (b : Bool). cond b out (fronted text out)) (sym ef))
+  unfolding writtenIn frontedInto replyIn printedIn
+  prints false f e = (refl, refl)
+  prints true true e = (refl, refl)
+  prints true false e = (ap (λ (b : Bool). Answer (cond b 0 (length text))) (sym e), ap (λ (b : Bool). cond b out (fronted text out)) (sym e))
 
-  -- the sheet's answer and bytes, and what the reply makes of them
-  pub reply-printed : (a : SheetAnswer) (mid next : List ℕ) (r : Reply) → a ≡ sheetAnswer s xs ys (length out) → mid ≡ sheetAfter s xs ys out → r ≡ addedReply a mid → next ≡ addedOut a mid
-      → Prints r next (situationPrinted s xs ys (length out)) out
-  unfolding text frontedInto situationPrinted
-  reply-printed a mid next r ea em er ex =
-      let t = prints (eqb (refusalOf s xs ys) 0) (ltb (length out) (length text)) refl refl in
-      let cases = answer-cases s xs ys (length out) in
-      let answer = ea ∙ cases in
-      let bytes = em ∙ after-told s xs ys out in
-      prints-as _ _ out next r (ap (λ (z : SheetAnswer). answerPrinted z text) (sym cases)) (er ∙ ap₂ addedReply answer bytes ∙ t .0, ex ∙ ap₂ addedOut answer bytes ∙ t .1)
+  answer-printed : (a : SheetAnswer) (mid next : List ℕ) (reply : Reply) → a ≡ cond (eqb r 0) (cond (ltb (length out) (length text)) (Refused k) (Written (length text))) (Refused r) → mid ≡ cond (eqb r 0) (frontedInto text out) out
+      → reply ≡ addedReply a mid → next ≡ addedOut a mid → Prints reply next (answerPrinted a text) out
+  unfolding frontedInto
+  answer-printed a mid next reply ea em er ex =
+      let t = prints (eqb r 0) (ltb (length out) (length text)) refl in
+      prints-as _ _ out next reply (ap (λ (z : SheetAnswer). answerPrinted z text) (sym ea)) (er ∙ ap₂ addedReply ea em ∙ t .0, ex ∙ ap₂ addedOut ea em ∙ t .1)
+
+-- where this is wanted: the number of the refusal of the lent bytes
+roomNumber : Wanted → ℕ
+roomNumber Sheet = 7
+roomNumber Sentences = 8
+
+answer-cases : (w : Wanted) (s : Situation) (xs ys : List Float) (lent : ℕ)
+    → wantedAnswer w s xs ys lent ≡ cond (eqb (refusalOf s xs ys) 0) (cond (ltb lent (length (wantedText w s xs ys))) (Refused (roomNumber w)) (Written (length (wantedText w s xs ys)))) (Refused (refusalOf s xs ys))
+unfolding roomNumber
+answer-cases Sheet s xs ys lent = Sheets.answer-cases s xs ys lent
+answer-cases Sentences s xs ys lent = Coach.answer-cases s xs ys lent
+
+after-told : (w : Wanted) (s : Situation) (xs ys : List Float) (out : List ℕ) → wantedAfter w s xs ys out ≡ cond (eqb (refusalOf s xs ys) 0) (frontedInto (wantedText w s xs ys) out) out
+after-told Sheet s xs ys out = Sheets.after-told s xs ys out
+after-told Sentences s xs ys out = Coach.after-told s xs ys out
+
+pub reply-printed : (w : Wanted) (s : Situation) (xs ys : List Float) (out : List ℕ) (a : SheetAnswer) (mid next : List ℕ) (r : Reply) → a ≡ wantedAnswer w s xs ys (length out) → mid ≡ wantedAfter w s xs ys out → r ≡ addedReply a mid → next ≡ addedOut a mid
+    → Prints r next (situationPrinted w s xs ys (length out)) out
+unfolding situationPrinted
+reply-printed w s xs ys out a mid next r ea em er ex =
+    prints-as _ _ out next r (ap (λ (z : SheetAnswer). answerPrinted z (wantedText w s xs ys)) ea)
+    (answer-printed (refusalOf s xs ys) (roomNumber w) (wantedText w s xs ys) out a mid next r (ea ∙ answer-cases w s xs ys (length out)) (em ∙ after-told w s xs ys out) er ex)
 
 -- ---- the earlier places among the numbers
 -- the floats of a part of the numbers, taken from the front of the places that hold them
@@ -94,9 +112,9 @@ places-told ns from n k xs₀ xs same e room low =
     ∙ ap (λ (m : ℕ). table m f) count
     ∙ table-same n f (λ i. ofBits binary32 (getD ns (from + i) 0)) (λ i h. ap (ofBits binary32) (getD-take k (drop from ns) i 0 (omega (arith, same, h)) ∙ getD-drop from ns i 0))
 
-pub printed-same : (s s' : Situation) (xs xs' ys ys' : List Float) (lent : ℕ) → s ≡ s' → xs ≡ xs' → ys ≡ ys' → situationPrinted s xs ys lent ≡ situationPrinted s' xs' ys' lent
-printed-same s s' xs xs' ys ys' lent a b c =
-    ap (λ (z : Situation). situationPrinted z xs ys lent) a ∙ ap₂ (λ (v w : List Float). situationPrinted s' v w lent) b c
+pub printed-same : (wanted : Wanted) (s s' : Situation) (xs xs' ys ys' : List Float) (lent : ℕ) → s ≡ s' → xs ≡ xs' → ys ≡ ys' → situationPrinted wanted s xs ys lent ≡ situationPrinted wanted s' xs' ys' lent
+printed-same wanted s s' xs xs' ys ys' lent a b c =
+    ap (λ (z : Situation). situationPrinted wanted z xs ys lent) a ∙ ap₂ (λ (v w : List Float). situationPrinted wanted s' v w lent) b c
 
 -- the numbers stay as many
 pub stored-long : (ns ms : List ℕ) → ms ≡ stored ns (replicate mostNumbers 0) → length ms ≡ mostNumbers
@@ -108,22 +126,22 @@ stored-long ns ms e =
     omega (arith, ap length e, long, length-append front (drop (length front) buffer), length-take (length buffer) ns, length-drop (length front) buffer)
 
 -- ---- by what the text is
-judged-as : (text : List ℕ) (lent : ℕ) (i : Input) → inputOf text ≡ i → inputPrinted i (numbersOf text) lent ≡ judgedPrinted text lent
-unfolding judgedPrinted
-judged-as text lent i e = ap (λ (z : Input). inputPrinted z (numbersOf text) lent) (sym e)
+judged-as : (wanted : Wanted) (text : List ℕ) (lent : ℕ) (i : Input) → inputOf text ≡ i → inputPrinted wanted i (numbersOf text) lent ≡ textPrinted wanted text lent
+unfolding textPrinted
+judged-as wanted text lent i e = ap (λ (z : Input). inputPrinted wanted z (numbersOf text) lent) (sym e)
 
 -- a text that is no situation: what is told by the numbers that were stored is told of the text
-pub judged-wrong : (text ms : List ℕ) (i : ℕ) (fault : Fault) (lent : ℕ) → inputOf text ≡ Wrong i fault → ms ≡ stored (numbersOf text) (replicate mostNumbers 0) → told (faultLine ms i fault) ≡ judgedPrinted text lent
-judged-wrong text ms i fault lent e m =
+pub judged-wrong : (wanted : Wanted) (text ms : List ℕ) (i : ℕ) (fault : Fault) (lent : ℕ) → inputOf text ≡ Wrong i fault → ms ≡ stored (numbersOf text) (replicate mostNumbers 0) → told (faultLine ms i fault) ≡ textPrinted wanted text lent
+judged-wrong wanted text ms i fault lent e m =
     let long : length {A = ℕ} (replicate mostNumbers 0) ≡ mostNumbers = length-replicate {A = ℕ} mostNumbers 0 in
     ap (λ (l : List ℕ). told (faultLine l i fault)) m
     ∙ ap told (line-known _ _ i fault (fault-known text (replicate mostNumbers 0) i fault long e))
-    ∙ judged-as text lent (Wrong i fault) e
+    ∙ judged-as wanted text lent (Wrong i fault) e
 
 -- a situation, read from the numbers that were stored
-pub judged-read : (text ms : List ℕ) (nx ny lent : ℕ) → inputOf text ≡ Read nx ny → ms ≡ stored (numbersOf text) (replicate mostNumbers 0) → numbersPrinted ms nx ny lent ≡ judgedPrinted text lent
+pub judged-read : (wanted : Wanted) (text ms : List ℕ) (nx ny lent : ℕ) → inputOf text ≡ Read nx ny → ms ≡ stored (numbersOf text) (replicate mostNumbers 0) → numbersPrinted wanted ms nx ny lent ≡ textPrinted wanted text lent
 unfolding numbersPrinted placesFrom
-judged-read text ms nx ny lent e m =
+judged-read wanted text ms nx ny lent e m =
     let p = parts text nx ny e in
     let ns = numbersOf text in
     let buffer : List ℕ = replicate mostNumbers 0 in
@@ -132,7 +150,7 @@ judged-read text ms nx ny lent e m =
     let at : (k : ℕ) → k < numbersFor nx ny → getD ms k 0 ≡ getD ns k 0 =
     λ k h. ap (λ (l : List ℕ). getD l k 0) m ∙ stored-at ns buffer k (omega (arith, h, p .whole)) (omega (arith, h, p .few-x, p .few-y, long)) in
     let float : (k : ℕ) → k < numbersFor nx ny → ofBits binary32 (getD ms k 0) ≡ ofBits binary32 (getD ns k 0) = λ k h. ap (ofBits binary32) (at k h) in
-    printed-same _ _ _ _ _ _ lent (ap situationOf words)
+    printed-same wanted _ _ _ _ _ _ lent (ap situationOf words)
     (table-same nx (λ k. ofBits binary32 (getD ms (firstX + k) 0)) (λ k. ofBits binary32 (getD ns (firstX + k) 0)) (λ k h. float (firstX + k) (omega (arith, h))))
     (table-same ny (λ k. ofBits binary32 (getD ms (firstY + nx + k) 0)) (λ k. ofBits binary32 (getD ns (firstY + nx + k) 0)) (λ k h. float (firstY + nx + k) (omega (arith, h))))
-    ∙ judged-as text lent (Read nx ny) e
+    ∙ judged-as wanted text lent (Read nx ny) e

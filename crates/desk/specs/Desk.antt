@@ -1,4 +1,4 @@
--- What is printed for a text that may be a situation: its sheet, the number of the refusal, or one line that says at which number something is wrong and what. Definitions only.
+-- What is printed for a text that may be a situation: its sheet or the coach's lines, the number of the refusal, or one line that says at which number something is wrong and what. Definitions only.
 use mathlib.Core.List.{List}
 use Prim.Native.Nat.{ℕ, _+_}
 use lib.Ieee.{Float, binary32, ofBits}
@@ -13,14 +13,17 @@ use Rattle.input.specs.declared.Input.the-variants.{Read, Wrong}
 use Rattle.words.specs.Words.{situationOf}
 use Rattle.decision.specs.Decision.{decisionOf}
 use Rattle.replies.specs.Replies.{faultLine, refusedLine, lineIn, writtenIn}
-use Rattle.call.specs.Call.{sheetAnswer}
+use Rattle.call.specs.Call.{sheetAnswer, sheetAfter}
+use Rattle.coach.specs.Coach.{sentencesOf, sentencesAnswer, sentencesAfter}
 use Rattle.sheet.specs.Sheet.{textOf}
 use Rattle.sheet.specs.declared.text.SheetAnswer.{SheetAnswer}
 use Rattle.sheet.specs.declared.text.SheetAnswer.the-variants.{Refused, Written}
 use Rattle.desk.specs.declared.Reply.{Reply}
 use Rattle.desk.specs.declared.Reply.the-variants.{Answer, Told}
+use Rattle.desk.specs.declared.Wanted.{Wanted}
+use Rattle.desk.specs.declared.Wanted.the-variants.{Sheet, Sentences}
 
--- what is printed: an answer, which is a sheet, or something else that is told, a refusal or what is wrong with the input
+-- what is printed: an answer, a sheet or the coach's lines, or something else that is told, a refusal or what is wrong with the input
 pub data Printed : Type 0 where
   answer : List ℕ → Printed
   told : List ℕ → Printed
@@ -29,27 +32,49 @@ pub data Printed : Type 0 where
 unfoldable pub placesFrom : List ℕ → ℕ → ℕ → List Float
 placesFrom ns from n = table n (λ k. ofBits binary32 (getD ns (from + k) 0))
 
--- the text of the decision, or the line of the refusal
+-- the text that is written, or the line of the refusal
 abbrev pub answerPrinted : SheetAnswer → List ℕ → Printed
 answerPrinted (Refused n) text = told (refusedLine n)
 answerPrinted (Written n) text = answer text
 
+-- the text that is wanted of a situation
+abbrev pub wantedText : Wanted → Situation → List Float → List Float → List ℕ
+wantedText Sheet s xs ys = textOf (decisionOf s xs ys)
+wantedText Sentences s xs ys = sentencesOf s
+
+-- what is then answered, and the lent bytes after it
+abbrev pub wantedAnswer : Wanted → Situation → List Float → List Float → ℕ → SheetAnswer
+wantedAnswer Sheet s xs ys lent = sheetAnswer s xs ys lent
+wantedAnswer Sentences s xs ys lent = sentencesAnswer s xs ys lent
+
+abbrev pub wantedAfter : Wanted → Situation → List Float → List Float → List ℕ → List ℕ
+wantedAfter Sheet s xs ys out = sheetAfter s xs ys out
+wantedAfter Sentences s xs ys out = sentencesAfter s xs ys out
+
 -- for a situation and its earlier places, where so many bytes are lent
-unfoldable pub situationPrinted : Situation → List Float → List Float → ℕ → Printed
-situationPrinted s xs ys lent = answerPrinted (sheetAnswer s xs ys lent) (textOf (decisionOf s xs ys))
+unfoldable pub situationPrinted : Wanted → Situation → List Float → List Float → ℕ → Printed
+situationPrinted wanted s xs ys lent = answerPrinted (wantedAnswer wanted s xs ys lent) (wantedText wanted s xs ys)
 
 -- for numbers: the words, the number of earlier x and their patterns, the number of earlier y and theirs
-unfoldable pub numbersPrinted : List ℕ → ℕ → ℕ → ℕ → Printed
-numbersPrinted ns nx ny lent = situationPrinted (situationOf (take wordCount ns)) (placesFrom ns firstX nx) (placesFrom ns (firstY + nx) ny) lent
+unfoldable pub numbersPrinted : Wanted → List ℕ → ℕ → ℕ → ℕ → Printed
+numbersPrinted wanted ns nx ny lent = situationPrinted wanted (situationOf (take wordCount ns)) (placesFrom ns firstX nx) (placesFrom ns (firstY + nx) ny) lent
 
 -- by what the text is
-abbrev pub inputPrinted : Input → List ℕ → ℕ → Printed
-inputPrinted (Read nx ny) ns lent = numbersPrinted ns nx ny lent
-inputPrinted (Wrong i fault) ns lent = told (faultLine ns i fault)
+abbrev pub inputPrinted : Wanted → Input → List ℕ → ℕ → Printed
+inputPrinted wanted (Read nx ny) ns lent = numbersPrinted wanted ns nx ny lent
+inputPrinted wanted (Wrong i fault) ns lent = told (faultLine ns i fault)
 
 -- for a text
-unfoldable pub judgedPrinted : List ℕ → ℕ → Printed
-judgedPrinted text lent = inputPrinted (inputOf text) (numbersOf text) lent
+unfoldable pub textPrinted : Wanted → List ℕ → ℕ → Printed
+textPrinted wanted text lent = inputPrinted wanted (inputOf text) (numbersOf text) lent
+
+-- where the sheet is wanted
+abbrev pub judgedPrinted : List ℕ → ℕ → Printed
+judgedPrinted text lent = textPrinted Sheet text lent
+
+-- where the coach's lines are
+abbrev pub coachedPrinted : List ℕ → ℕ → Printed
+coachedPrinted text lent = textPrinted Sentences text lent
 
 -- ---- on lent bytes
 -- what is printed as a text

@@ -1,4 +1,4 @@
-// What the program `judge` prints for what it reads: a sheet, a refusal, or what is wrong with the input.
+// What the program `judge` prints for what it reads: a sheet, the coach's lines, a refusal, or what is wrong with the input.
 ghost use mathlib.Core.Path.{_≡_};
 ghost use Prim.Native.Nat.{_≤_};
 ghost use lib.ListN.{length};
@@ -13,18 +13,47 @@ use input::NUMBERS;
 use input::PLACES;
 use sheet::SheetAnswer;
 
-// What was written, of so many bytes: an answer, which is a sheet, or something else that is told, a refusal or what is wrong with the input.
+// What was written, of so many bytes: an answer, a sheet or the coach's lines, or something else that is told, a refusal or what is wrong with the input.
 pub enum Reply {
     Answer(usize),
     Told(usize),
 }
 
-// Decides on a situation: its sheet, or the line of its refusal.
-fn judge_situation<'a>(s: Situation, xs: &'a [f32], ys: &'a [f32], out: &mut [u8]) -> Reply
-    ensures { λ r. ⌜ r ≡ Spec.replyIn (Spec.situationPrinted s (now (xs .entry)) (now (ys .entry)) (length (now (out .entry)))) (now (out .entry)) ⌝ }
-    ensures { λ _. ⌜ now (out .exit) ≡ Spec.printedIn (Spec.situationPrinted s (now (xs .entry)) (now (ys .entry)) (length (now (out .entry)))) (now (out .entry)) ⌝ }
+// What is wanted of a situation.
+enum Wanted {
+    Sheet,
+    Sentences,
+}
+
+// Decides on a situation and writes what is wanted of it.
+fn write_wanted<'a>(
+    wanted: Wanted,
+    s: Situation,
+    xs: &'a [f32],
+    ys: &'a [f32],
+    out: &mut [u8],
+) -> SheetAnswer
+    ensures { λ r. ⌜ r ≡ Spec.wantedAnswer wanted s (now (xs .entry)) (now (ys .entry)) (length (now (out .entry))) ⌝ }
+    ensures { λ _. ⌜ now (out .exit) ≡ Spec.wantedAfter wanted s (now (xs .entry)) (now (ys .entry)) (now (out .entry)) ⌝ }
 {
-    let answer = call::write_sheet(s, xs, ys, out);
+    match wanted {
+        Wanted::Sheet => call::write_sheet(s, xs, ys, out),
+        Wanted::Sentences => call::write_sentences(s, xs, ys, out),
+    }
+}
+
+// The same, with the line of a refusal in its place.
+fn judge_situation<'a>(
+    wanted: Wanted,
+    s: Situation,
+    xs: &'a [f32],
+    ys: &'a [f32],
+    out: &mut [u8],
+) -> Reply
+    ensures { λ r. ⌜ r ≡ Spec.replyIn (Spec.situationPrinted wanted s (now (xs .entry)) (now (ys .entry)) (length (now (out .entry)))) (now (out .entry)) ⌝ }
+    ensures { λ _. ⌜ now (out .exit) ≡ Spec.printedIn (Spec.situationPrinted wanted s (now (xs .entry)) (now (ys .entry)) (length (now (out .entry)))) (now (out .entry)) ⌝ }
+{
+    let answer = write_wanted(wanted, s, xs, ys, out);
     match answer {
         SheetAnswer::Refused(n) => Reply::Told(replies::refused_line(n, out)),
         SheetAnswer::Written(n) => Reply::Answer(n),
@@ -32,10 +61,10 @@ fn judge_situation<'a>(s: Situation, xs: &'a [f32], ys: &'a [f32], out: &mut [u8
 }
 
 // The same of a situation as numbers, of which nx are earlier x and ny earlier y.
-fn judge_numbers(numbers: &[u32], nx: usize, ny: usize, out: &mut [u8]) -> Reply
+fn judge_numbers(wanted: Wanted, numbers: &[u32], nx: usize, ny: usize, out: &mut [u8]) -> Reply
     requires { ⌜ (nx ≤ mostPlaces) × (ny ≤ mostPlaces) × (numbersFor nx ny ≤ length (now numbers)) ⌝ }
-    ensures { λ r. ⌜ r ≡ Spec.replyIn (Spec.numbersPrinted (now (numbers .entry)) nx ny (length (now (out .entry)))) (now (out .entry)) ⌝ }
-    ensures { λ _. ⌜ now (out .exit) ≡ Spec.printedIn (Spec.numbersPrinted (now (numbers .entry)) nx ny (length (now (out .entry)))) (now (out .entry)) ⌝ }
+    ensures { λ r. ⌜ r ≡ Spec.replyIn (Spec.numbersPrinted wanted (now (numbers .entry)) nx ny (length (now (out .entry)))) (now (out .entry)) ⌝ }
+    ensures { λ _. ⌜ now (out .exit) ≡ Spec.printedIn (Spec.numbersPrinted wanted (now (numbers .entry)) nx ny (length (now (out .entry)))) (now (out .entry)) ⌝ }
 {
     let mut xs = [0.0f32; PLACES];
     let mut ys = [0.0f32; PLACES];
@@ -43,7 +72,20 @@ fn judge_numbers(numbers: &[u32], nx: usize, ny: usize, out: &mut [u8]) -> Reply
     input::fill_places(&numbers[FIRST_X..FIRST_X + nx], &mut xs);
     input::fill_places(&numbers[from..from + ny], &mut ys);
     let s = words::situation_of(&numbers[..WORDS]);
-    judge_situation(s, &xs[..nx], &ys[..ny], out)
+    judge_situation(wanted, s, &xs[..nx], &ys[..ny], out)
+}
+
+// Reads a situation from a text and writes what is printed for it.
+fn judge_text(wanted: Wanted, text: &[u8], out: &mut [u8]) -> Reply
+    ensures { λ r. ⌜ r ≡ Spec.replyIn (Spec.textPrinted wanted (now (text .entry)) (length (now (out .entry)))) (now (out .entry)) ⌝ }
+    ensures { λ _. ⌜ now (out .exit) ≡ Spec.printedIn (Spec.textPrinted wanted (now (text .entry)) (length (now (out .entry)))) (now (out .entry)) ⌝ }
+{
+    let mut numbers = [0u32; NUMBERS];
+    let input = input::read_input(text, &mut numbers);
+    match input {
+        Input::Read(nx, ny) => judge_numbers(wanted, &numbers, nx, ny, out),
+        Input::Wrong(i, fault) => Reply::Told(replies::fault_line(&numbers, i, fault, out)),
+    }
 }
 
 // Reads a situation from a text and writes what is printed for it at the front of the lent bytes; the bytes after it are kept. Where these are too few for
@@ -52,10 +94,13 @@ pub fn judge(text: &[u8], out: &mut [u8]) -> Reply
     ensures { λ r. ⌜ r ≡ Spec.replyIn (Spec.judgedPrinted (now (text .entry)) (length (now (out .entry)))) (now (out .entry)) ⌝ }
     ensures { λ _. ⌜ now (out .exit) ≡ Spec.printedIn (Spec.judgedPrinted (now (text .entry)) (length (now (out .entry)))) (now (out .entry)) ⌝ }
 {
-    let mut numbers = [0u32; NUMBERS];
-    let input = input::read_input(text, &mut numbers);
-    match input {
-        Input::Read(nx, ny) => judge_numbers(&numbers, nx, ny, out),
-        Input::Wrong(i, fault) => Reply::Told(replies::fault_line(&numbers, i, fault, out)),
-    }
+    judge_text(Wanted::Sheet, text, out)
+}
+
+// The same for the coach's lines.
+pub fn coach(text: &[u8], out: &mut [u8]) -> Reply
+    ensures { λ r. ⌜ r ≡ Spec.replyIn (Spec.coachedPrinted (now (text .entry)) (length (now (out .entry)))) (now (out .entry)) ⌝ }
+    ensures { λ _. ⌜ now (out .exit) ≡ Spec.printedIn (Spec.coachedPrinted (now (text .entry)) (length (now (out .entry)))) (now (out .entry)) ⌝ }
+{
+    judge_text(Wanted::Sentences, text, out)
 }

@@ -13,7 +13,7 @@ use libc::STDOUT_FILENO;
 // Room for the longest input, 8,759 numbers of ten digits, almost three times.
 const ROOM: usize = 262144;
 
-// Room for the longest sheet, 166 lines of 45 bytes.
+// Room for the longest sheet, 166 lines of 45 bytes; the coach's lines have at most 3,000.
 const SHEET: usize = 7470;
 
 // Zeros. Where they are made in a function of their own, no other proof has the list of them before it.
@@ -64,8 +64,15 @@ fn answer(text: &[u8]) {
     }
 }
 
-// Judges what is read from a descriptor; its name is for a failed read.
-fn judge(fd: i32, name: &[u8]) {
+fn reply_to(command: Command, text: &[u8], out: &mut [u8]) -> Reply {
+    match command {
+        Command::Coach => desk::coach(text, out),
+        _ => desk::judge(text, out),
+    }
+}
+
+// Runs a command on what is read from a descriptor; its name is for a failed read.
+fn run(command: Command, fd: i32, name: &[u8]) {
     let mut text = room();
     let got = read_text(fd, &mut text);
     if !got.whole {
@@ -78,25 +85,25 @@ fn judge(fd: i32, name: &[u8]) {
     }
     let n = got.size;
     let mut out = [0u8; SHEET];
-    let reply = desk::judge(&text[..n], &mut out);
+    let reply = reply_to(command, &text[..n], &mut out);
     match reply {
         Reply::Answer(m) => answer(replies::front(&out, m)),
         Reply::Told(m) => tell(replies::front(&out, m)),
     }
 }
 
-fn judge_file(name: &[u8]) {
+fn run_file(command: Command, name: &[u8]) {
     let fd = os::open_read(name);
     if fd < 0 {
         cannot_read(name);
         return;
     }
-    judge(fd, name);
+    run(command, fd, name);
 }
 
 fn help() {
     answer(
-        b"judge [COMMAND] [FILE]\n\nsheet   judges a situation and prints its sheet; where no command is given, this one\nhelp    prints this text\n\nWithout a file, or where it is -, standard input is read. A file that has a command's name is written ./sheet.\n",
+        b"judge [COMMAND] [FILE]\n\nsheet   judges a situation and prints its sheet; where no command is given, this one\ncoach   tells for each player that does not stand legally which rule it breaks, a line each\nhelp    prints this text\n\nWithout a file, or where it is -, standard input is read. A file that has a command's name is written ./sheet.\n",
     );
 }
 
@@ -112,10 +119,10 @@ fn main() {
         Asked::Unclear => tell(b"unclear words: judge help tells how judge is called\n"),
         Asked::Run(command, source) => match command {
             Command::Help => help(),
-            Command::Sheet => match source {
-                Source::StandardInput => judge(STDIN_FILENO, b"standard input"),
-                Source::FirstWord => judge_file(&first[..n]),
-                Source::SecondWord => judge_file(&second[..m]),
+            _ => match source {
+                Source::StandardInput => run(command, STDIN_FILENO, b"standard input"),
+                Source::FirstWord => run_file(command, &first[..n]),
+                Source::SecondWord => run_file(command, &second[..m]),
             },
         },
     }

@@ -5,7 +5,7 @@ use Prim.Native.Nat.{ℕ, _+_, _-_, _≤_, _<_}
 use native.Mathlib.Nat.{add-assoc, zero-add}
 use native.Mathlib.Numerals.{add-one}
 use native.Mathlib.Omega.{arith}
-use lib.ListN.{length, take, drop, set, length-append, take-append-drop}
+use lib.ListN.{length, take, drop, set, length-append, length-drop, take-append-drop}
 use lib.Seq.{take-at, drop-append-add, drop-drop, set-split, length-take-le}
 use Rattle.lists.specs.Put.{fronted}
 use Rattle.lists.proofs.Part.{part-back}
@@ -47,6 +47,11 @@ module _ {A : Type 0} where
   pub over-part : (xs l ys : List A) (at : ℕ) → ys ≡ fronted l (take (length xs - at) (drop at xs)) → take at xs ++ (ys ++ drop (length xs - at) (drop at xs)) ≡ over at l xs
   unfolding over fronted
   over-part xs l ys at e = part-back xs l ys at (length l) e
+
+  -- the list keeps its length
+  pub over-long : (at : ℕ) (l s : List A) → at + length l ≤ length s → length (over at l s) ≡ length s
+  unfolding over
+  over-long at l s h = omega (arith, length-before at (l ++ drop (at + length l) s) s (omega arith), length-append (take at s) (l ++ drop (at + length l) s), length-append l (drop (at + length l) s), length-drop (at + length l) s)
 
   -- nothing is written
   pub over-none : (at : ℕ) (s : List A) → s ≡ over at [] s

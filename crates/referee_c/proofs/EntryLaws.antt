@@ -1,5 +1,5 @@
 -- What the entries' definitions give in each case that the code tells apart. Assumes nothing.
-use mathlib.Core.Path.{_≡_, refl, ap, sym, _∙_}
+use mathlib.Core.Path.{_≡_, refl, ap, ap₂, sym, _∙_}
 use mathlib.Core.Bool.{Bool, true, false, _&&_, cond, true≢false}
 use mathlib.Core.List.{List}
 use Prim.Native.Nat.{ℕ, _+_, _≤_}
@@ -10,14 +10,16 @@ use lib.Dec.{eqb}
 use lib.IntN.{ℤ, pos}
 use lib.ListN.{length, drop, length-append}
 use Rattle.lists.specs.Put.{fronted}
+use Rattle.game.specs.declared.Side.{Side}
 use Rattle.game.specs.declared.Situation.{Situation}
 use Rattle.candidates.specs.Candidates.{refusalOf, answerOf}
 use Rattle.columns.specs.Layout.{wordCount}
 use Rattle.columns.specs.Columns.{wordsWithin, isSituation}
-use Rattle.words.specs.Words.{situationOf}
+use Rattle.words.specs.Words.{sideOf, situationOf}
 use Rattle.call.specs.Call.{sheetAnswer, sheetAfter}
+use Rattle.coach.specs.Coach.{sentenceAnswer, sentenceAfter}
 use Rattle.sheet.specs.declared.text.SheetAnswer.{SheetAnswer}
-use Rattle.referee_c.specs.Entries.{minus, checkNumber, answerNumber, sheetNumber, sheetBytes, candidatesNumber}
+use Rattle.referee_c.specs.Entries.{minus, checkNumber, answerNumber, sheetNumber, sheetBytes, isCoachAsked, coachNumber, coachBytes, candidatesNumber}
 
 -- ---- whether words are a situation, by the two tests: their number, and how many are within
 abbrev checked : Bool → Bool → ℕ → ℤ
@@ -55,24 +57,42 @@ module _ (ws : List ℕ) where
       go true false e = let z : wordsWithin ws + 1 ≡ 0 = cc in absurd (omega arith)
       go false all e = let z : _≡_ {A = ℕ} 0 1 = cc in absurd (omega arith)
 
+-- ---- an entry that is asked something, and answers and leaves by a call; otherwise it answers -100 and changes nothing
+module _ (asked : Bool) (answer : SheetAnswer) (after lent : List ℕ) where
+  not-asked : asked ≡ false → (minus 100 ≡ cond asked (answerNumber answer) (minus 100)) × (lent ≡ cond asked after lent)
+  not-asked f = (ap (λ (b : Bool). cond b (answerNumber answer) (minus 100)) (sym f), ap (λ (b : Bool). cond b after lent) (sym f))
+
+  is-asked : (a : SheetAnswer) (next : List ℕ) → asked ≡ true → a ≡ answer → next ≡ after → (answerNumber a ≡ cond asked (answerNumber answer) (minus 100)) × (next ≡ cond asked after lent)
+  is-asked a next t e p = (ap answerNumber e ∙ ap (λ (b : Bool). cond b (answerNumber answer) (minus 100)) (sym t), p ∙ ap (λ (b : Bool). cond b after lent) (sym t))
+
 module _ (ws : List ℕ) (xs ys : List Float) (sheet : List ℕ) where
   -- the words are no situation
   pub no-situation : isSituation ws ≡ false → (minus 100 ≡ sheetNumber ws xs ys (length sheet)) × (sheet ≡ sheetBytes ws xs ys sheet)
   unfolding sheetNumber sheetBytes
-  no-situation f = (
-    ap (λ (b : Bool). cond b (answerNumber (sheetAnswer (situationOf ws) xs ys (length sheet))) (minus 100)) (sym f),
-    ap (λ (b : Bool). cond b (sheetAfter (situationOf ws) xs ys sheet) sheet) (sym f),
-  )
+  no-situation f = not-asked (isSituation ws) (sheetAnswer (situationOf ws) xs ys (length sheet)) (sheetAfter (situationOf ws) xs ys sheet) sheet f
 
   -- they are s
   pub a-situation : (s : Situation) (a : SheetAnswer) (next : List ℕ) → isSituation ws ≡ true → s ≡ situationOf ws → a ≡ sheetAnswer s xs ys (length sheet) → next ≡ sheetAfter s xs ys sheet
       → (answerNumber a ≡ sheetNumber ws xs ys (length sheet)) × (next ≡ sheetBytes ws xs ys sheet)
   unfolding sheetNumber sheetBytes
-  a-situation s a next t same e p = (
-    ap answerNumber (e ∙ ap (λ (u : Situation). sheetAnswer u xs ys (length sheet)) same)
-        ∙ ap (λ (b : Bool). cond b (answerNumber (sheetAnswer (situationOf ws) xs ys (length sheet))) (minus 100)) (sym t),
-    p ∙ ap (λ (u : Situation). sheetAfter u xs ys sheet) same ∙ ap (λ (b : Bool). cond b (sheetAfter (situationOf ws) xs ys sheet) sheet) (sym t),
-  )
+  a-situation s a next t same e p =
+      is-asked (isSituation ws) (sheetAnswer (situationOf ws) xs ys (length sheet)) (sheetAfter (situationOf ws) xs ys sheet) sheet a next t (e ∙ ap (λ (u : Situation). sheetAnswer u xs ys (length sheet)) same)
+      (p ∙ ap (λ (u : Situation). sheetAfter u xs ys sheet) same)
+
+module _ (ws : List ℕ) (xs ys : List Float) (side n : ℕ) (text : List ℕ) where
+  -- the words are no situation, or the side is none
+  pub no-player : isCoachAsked ws side ≡ false → (minus 100 ≡ coachNumber ws xs ys side n (length text)) × (text ≡ coachBytes ws xs ys side n text)
+  unfolding coachNumber coachBytes
+  no-player f = not-asked (isCoachAsked ws side) (sentenceAnswer (situationOf ws) xs ys (sideOf side) n (length text)) (sentenceAfter (situationOf ws) xs ys (sideOf side) n text) text f
+
+  -- they are s, and the side is z
+  pub a-player : (s : Situation) (z : Side) (a : SheetAnswer) (next : List ℕ) → isCoachAsked ws side ≡ true → s ≡ situationOf ws → z ≡ sideOf side → a ≡ sentenceAnswer s xs ys z n (length text) → next ≡ sentenceAfter s xs ys z n text
+      → (answerNumber a ≡ coachNumber ws xs ys side n (length text)) × (next ≡ coachBytes ws xs ys side n text)
+  unfolding coachNumber coachBytes
+  a-player s z a next t same team e p =
+      is-asked (isCoachAsked ws side) (sentenceAnswer (situationOf ws) xs ys (sideOf side) n (length text)) (sentenceAfter (situationOf ws) xs ys (sideOf side) n text) text a next t
+      (e ∙ ap₂ (λ (u : Situation) (v : Side). sentenceAnswer u xs ys v n (length text)) same team)
+      (p ∙ ap₂ (λ (u : Situation) (v : Side). sentenceAfter u xs ys v n text) same team)
 
 module _ (start min max step : Float) (lent n : ℕ) (told : n ≡ length (answerOf start min max step lent)) where
   -- no candidate

@@ -71,6 +71,31 @@ pub extern "C" fn referee_sheet<'a>(
     minus(100)
 }
 
+// Writes the coach's line on one player of the situation that the words are at the front of the lent text. Answers the line's length, 0 for a player that stands legally, or a refusal.
+#[no_mangle]
+pub extern "C" fn referee_coach<'a>(
+    words: &[u32],
+    xs: &'a [f32],
+    ys: &'a [f32],
+    side: u32,
+    number: u32,
+    text: &mut [u8],
+) -> i64
+    ensures { λ r. ⌜ r ≡ Spec.coachNumber (now (words .entry)) (now (xs .entry)) (now (ys .entry)) side number (length (now (text .entry))) ⌝ }
+    ensures { λ _. ⌜ now (text .exit) ≡ Spec.coachBytes (now (words .entry)) (now (xs .entry)) (now (ys .entry)) side number (now (text .entry)) ⌝ }
+{
+    if !mode::is_ieee_mode(words.len()) {
+        return minus(101);
+    }
+    if columns::is_situation(words) & (side <= 1) {
+        let s = words::situation_of(words);
+        let team = words::side_of(side);
+        let answer = call::write_sentence(s, xs, ys, team, number, text);
+        return answer_number(answer);
+    }
+    minus(100)
+}
+
 // Fills the front of the lent list with the candidates. Answers how many there are, or a refusal.
 #[no_mangle]
 pub extern "C" fn referee_candidates(

@@ -1,15 +1,9 @@
 -- What the writer of a decision answers and leaves, by the definitions of the sheet. Assumes nothing.
-use mathlib.Core.Path.{_≡_, refl, sym, ap, subst, _∙_}
-use mathlib.Core.Bool.{Bool, true, false, cond}
-use mathlib.Core.List.{List, [], _∷_, _++_, append-assoc}
+use mathlib.Core.Path.{_≡_, refl, sym, ap, _∙_}
+use mathlib.Core.List.{List, [], _++_, append-assoc}
 use Prim.Native.Nat.{ℕ, _+_, _*_, _≤_, _<_}
 use native.Mathlib.Omega.{arith}
-use borrow.Author.Tests.{le-leb, lt-leb, leb-true, leb-false, lt-ltb, le-ltb}
-use lib.Dec.{eqb, leb, ltb}
 use lib.ListN.{length, length-append}
-use Rattle.lists.specs.Put.{fronted}
-use Rattle.lists.specs.Refusals.{firstRefusal}
-use Rattle.lists.proofs.Bools.{by-test}
 use Rattle.lists.proofs.Fronted.{into-short, into-fits}
 use Rattle.game.specs.declared.Decision.{Decision}
 use Rattle.lines.specs.declared.Row.{Row}
@@ -18,9 +12,9 @@ use Rattle.lines.specs.Over.{over}
 use Rattle.lines.proofs.Lines.{length-line, length-lines, lines-append}
 use Rattle.lines.proofs.Over.{over-front, stage-none, stage-next}
 use Rattle.sheet.specs.Rows.{header, rowsOf, sheetRows}
-use Rattle.sheet.specs.Sheet.{bytesIn, textOf, roomFor, decisionAnswer, decisionSheet}
-use Rattle.sheet.specs.declared.text.SheetAnswer.{SheetAnswer}
+use Rattle.sheet.specs.Sheet.{textOf, decisionAnswer, decisionSheet}
 use Rattle.sheet.specs.declared.text.SheetAnswer.the-variants.{Refused, Written}
+use Rattle.sheet.proofs.Texts.{text-short, text-fits}
 
 -- the bytes of a decision's text
 pub text-long : (d : Decision) → length (textOf d) ≡ 45 * length (rowsOf d) + 45
@@ -30,18 +24,11 @@ text-long d = length-lines (sheetRows d) ∙ omega arith
 -- ---- the answer
 answer-short : (d : Decision) (lent : ℕ) → lent < length (textOf d) → decisionAnswer d lent ≡ Refused 7
 unfolding decisionAnswer
-answer-short d lent h = simp (lt-leb (length (textOf d)) lent h)
+answer-short d lent h = sym (text-short [] 7 (textOf d) refl refl lent h)
 
 pub answer-fits : (d : Decision) (lent : ℕ) → length (textOf d) ≤ lent → decisionAnswer d lent ≡ Written (length (textOf d))
 unfolding decisionAnswer
-answer-fits d lent h = simp (le-leb (length (textOf d)) lent h)
-
--- by the test of the code
-pub answer-tested : (d : Decision) (lent : ℕ) → decisionAnswer d lent ≡ cond (ltb lent (length (textOf d))) (Refused 7) (Written (length (textOf d)))
-answer-tested d lent =
-    by-test (leb (length (textOf d)) lent)
-    (λ t. answer-fits d lent (leb-true _ _ t) ∙ ap (λ (b : Bool). cond b (Refused 7) (Written (length (textOf d)))) (sym (le-ltb lent (length (textOf d)) (leb-true _ _ t))))
-    (λ f. answer-short d lent (leb-false _ _ f) ∙ ap (λ (b : Bool). cond b (Refused 7) (Written (length (textOf d)))) (sym (lt-ltb lent (length (textOf d)) (leb-false _ _ f))))
+answer-fits d lent h = sym (text-fits [] 7 (textOf d) refl refl lent h)
 
 -- ---- what the code leaves
 -- too few bytes were lent
@@ -72,18 +59,3 @@ decision-written d n end s cur mid next a b e q room far p lp r lr t lt =
       ap Written (sym all) ∙ sym (answer-fits d (length s) fits),
       three .written ∙ ap (λ (u : List ℕ). over 0 u s) (text-parts d n a b e q) ∙ over-front (textOf d) s ∙ sym (into-fits (textOf d) s fits),
     )
-
--- ---- for a longer list of refusals that ends with this one
--- the bytes
-pub room-fronted : (d : Decision) (s : List ℕ) → cond (eqb (firstRefusal (roomFor d (length s) ∷ [])) 0) (fronted (textOf d) s) s ≡ decisionSheet d s
-room-fronted d s =
-    by-test (leb (length (textOf d)) (length s))
-    (λ t. ap (λ (b : Bool). cond (eqb (cond b 0 7) 0) (fronted (textOf d) s) s) t ∙ sym (into-fits (textOf d) s (leb-true _ _ t)))
-    (λ f. ap (λ (b : Bool). cond (eqb (cond b 0 7) 0) (fronted (textOf d) s) s) f ∙ sym (into-short (textOf d) s (leb-false _ _ f)))
-
--- no more bytes are written than were lent
-pub decision-room : (d : Decision) (lent : ℕ) → bytesIn (decisionAnswer d lent) ≤ lent
-decision-room d lent =
-    by-test (leb (length (textOf d)) lent)
-    (λ t. subst (λ (a : SheetAnswer). bytesIn a ≤ lent) (sym (answer-fits d lent (leb-true _ _ t))) (leb-true _ _ t))
-    (λ f. subst (λ (a : SheetAnswer). bytesIn a ≤ lent) (sym (answer-short d lent (leb-false _ _ f))) (omega arith))

@@ -1,4 +1,5 @@
 mod BlockLaws
 mod Written
+pub mod Texts
 pub mod Answers
 pub mod Room

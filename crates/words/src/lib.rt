@@ -47,7 +47,7 @@ fn flag_at(words: &[u32], i: usize) -> bool
     word_at(words, i) == 1
 }
 
-fn side_of(word: u32) -> Side
+pub fn side_of(word: u32) -> Side
     ensures { λ r. ⌜ r ≡ Spec.sideOf word ⌝ }
 {
     if word == 1 {

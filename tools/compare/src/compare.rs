@@ -40,17 +40,21 @@ pub fn entry(answer: &Answer) -> (i64, String) {
     }
 }
 
-/// Bytes that no sheet holds, different from place to place.
+/// Bytes that no answer holds, different from place to place.
 fn filler(i: usize) -> u8 {
     0x80 | (i as u8).wrapping_mul(37)
 }
 
-/// Calls the entry with `room` bytes between two guards. Says whether it gives `number` and writes exactly `text`, and keeps the rest.
 fn call(words: &[u32], s: &Situation, room: usize, number: i64, text: &str) -> bool {
+    guarded(room, number, text, |lent| library::sheet(words, &s.xs, &s.ys, lent))
+}
+
+/// Calls an entry with `room` bytes between two guards. Says whether it gives `number` and writes exactly `text`, and keeps the rest.
+pub fn guarded(room: usize, number: i64, text: &str, entry: impl FnOnce(&mut [u8]) -> i64) -> bool {
     const GUARD: usize = 16;
     let mut lent: Vec<u8> = (0..room + 2 * GUARD).map(filler).collect();
     let part = &mut lent[GUARD..GUARD + room];
-    let answer = library::sheet(words, &s.xs, &s.ys, part);
+    let answer = entry(part);
     if let (true, Ok(length)) = (slips::on(slips::WRITE_AFTER), usize::try_from(answer)) {
         part[length..].iter_mut().take(1).for_each(|byte| *byte = b' ');
     }

@@ -22,6 +22,9 @@ pub struct Decision {
     pub place: Option<Place>,
 }
 
+/// For each player the verdict and the number of the test that settled it, 0 where there is none.
+pub type Settled = [[(u8, u8); PLAYERS]; 2];
+
 const ITEMS: [&str; 8] = ["verdicts", "excess", "kicker", "leaving", "moved", "references", "ball", "place"];
 
 impl Decision {

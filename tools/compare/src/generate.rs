@@ -65,6 +65,26 @@ pub fn situation(random: &mut Random, class: Class) -> Situation {
     }
 }
 
+/// A situation of the class, mostly in a set play by which players are judged: for the coach's lines.
+pub fn judged(random: &mut Random, class: Class) -> Situation {
+    let mut s = situation(random, class);
+    // The poses of that class suit its set play.
+    if class == Class::Halfway || one_in(random, 4) {
+        return s;
+    }
+    s.phase = byte(random, 4);
+    s.stopped = one_in(random, 12);
+    s.set_play = random.pick(&[KICK_OFF, KICK_OFF, PENALTY_KICK, PENALTY_KICK, GOAL_KICK, GOAL_KICK, 2, INDIRECT_FREE_KICK, 5, 7]);
+    let at_mark = s.set_play == KICK_OFF || s.set_play == PENALTY_KICK;
+    s.state = if at_mark && random.coin() { SET } else { PLAYING };
+    s.kicking_side = maybe_side(random, 12);
+    // Areas that overlap, so that a player is in both.
+    if one_in(random, 10) {
+        s.sizes[PENALTY_AREA_LENGTH] = s.sizes[LENGTH] * between(random, 0.4, 1.0);
+    }
+    s
+}
+
 fn unit(random: &mut Random) -> f32 {
     (random.u64() >> 40) as f32 / (1u64 << 24) as f32
 }

@@ -11,6 +11,18 @@ unsafe extern "C" {
         sheet: *mut u8,
         sheet_len: usize,
     ) -> i64;
+    fn referee_coach(
+        words: *const u32,
+        words_len: usize,
+        xs: *const f32,
+        xs_len: usize,
+        ys: *const f32,
+        ys_len: usize,
+        side: u32,
+        number: u32,
+        text: *mut u8,
+        text_len: usize,
+    ) -> i64;
     fn referee_check(words: *const u32, words_len: usize) -> i64;
     fn referee_candidates(start: f32, min: f32, max: f32, step: f32, list: *mut f32, list_len: usize) -> i64;
     fn referee_hypot(x: f32, y: f32) -> f32;
@@ -32,6 +44,27 @@ pub fn sheet_fresh(words: &[u32], xs: &[f32], ys: &[f32], lent: &mut Vec<u8>, ro
     // SAFETY: as above; the entry writes the bytes that it counts, so that these are initialised.
     unsafe {
         let n = referee_sheet(words.as_ptr(), words.len(), xs.as_ptr(), xs.len(), ys.as_ptr(), ys.len(), lent.as_mut_ptr(), room);
+        lent.set_len(usize::try_from(n).unwrap_or(0));
+        n
+    }
+}
+
+/// The player that a coach asks for: the side and the number, which may be none.
+pub type Asked = (u32, u32);
+
+pub fn coach(words: &[u32], xs: &[f32], ys: &[f32], (side, number): Asked, text: &mut [u8]) -> i64 {
+    let (at, room) = (text.as_mut_ptr(), text.len());
+    // SAFETY: as of the sheet.
+    unsafe { referee_coach(words.as_ptr(), words.len(), xs.as_ptr(), xs.len(), ys.as_ptr(), ys.len(), side, number, at, room) }
+}
+
+/// The same with `room` bytes of the vector's capacity, which hold nothing yet; the vector then holds what was written.
+pub fn coach_fresh(words: &[u32], xs: &[f32], ys: &[f32], (side, number): Asked, lent: &mut Vec<u8>, room: usize) -> i64 {
+    assert!(lent.is_empty() && room <= lent.capacity());
+    let at = lent.as_mut_ptr();
+    // SAFETY: as of the sheet.
+    unsafe {
+        let n = referee_coach(words.as_ptr(), words.len(), xs.as_ptr(), xs.len(), ys.as_ptr(), ys.len(), side, number, at, room);
         lent.set_len(usize::try_from(n).unwrap_or(0));
         n
     }

@@ -2,6 +2,7 @@
 
 mod bench;
 mod cases;
+mod coach;
 mod compare;
 mod decision;
 mod entries;
@@ -16,6 +17,7 @@ mod situation;
 mod slips;
 mod stack;
 mod stand_ins;
+mod told;
 mod turn;
 
 mod exact_build;
@@ -25,9 +27,11 @@ mod mixed_build;
 mod slip_build;
 #[cfg(not(mutants))]
 mod std_build;
+#[cfg(not(mutants))]
+mod told_build;
 // mutants.py asks the exact build alone: it compiles faster without the others.
 #[cfg(mutants)]
-use {exact_build as mixed_build, exact_build as slip_build, exact_build as std_build};
+use {exact_build as mixed_build, exact_build as slip_build, exact_build as std_build, exact_build as told_build};
 
 #[allow(dead_code)]
 #[path = "../../compare-leaves/src/big.rs"]
@@ -46,6 +50,7 @@ compare [COUNT] [SEED]             compares COUNT situations (100000) of the see
 compare check [COUNT] [SEED]       compares referee_check
 compare candidates [COUNT] [SEED]  compares referee_candidates
 compare leaves [COUNT] [SEED]      compares the leaves
+compare coach [COUNT] [SEED]       compares referee_coach, COUNT situations (100000) of the seed (1)
 compare motion                     tries every distance at which motion could turn on std's hypot
 compare judge                      reads one situation as the program judge does and prints the three sheets
 compare until COUNT SEED           compares until the first difference
@@ -53,6 +58,7 @@ compare bench [SEED] [REPEATS]     times the whole call beside the original
 compare memory [COUNT] [SEED]      calls the entries for valgrind
 compare stack [COUNT] [SEED]       measures the stack that a call takes
 compare slips [COUNT] [SEED]       looks for a situation that shows each slip, COUNT at most
+compare coach-slips [COUNT] [SEED] the same for the slips in the coach's lines
 compare records [SEED]             writes the list that the program replay reads, of the seed (1), and what it covers to standard error
 compare replay                     reads such a list and asks the oracle again
 ";
@@ -72,6 +78,8 @@ fn main() {
         "check" => entries::compare_check(number(0, 1_000_000), number(1, 1)),
         "candidates" => entries::compare_candidates(number(0, 100_000), number(1, 1)),
         "leaves" => entries::compare_leaves(number(0, 1_000_000), number(1, 1)),
+        "coach" => coach::run(number(0, 100_000), number(1, 1)),
+        "coach-slips" => coach::try_slips(number(0, 100_000), number(1, 1)),
         "motion" => entries::compare_motion(),
         "bench" => bench::run(number(0, 1), number(1, 101) as usize),
         "memory" => memory::run(number(0, 4000), number(1, 1)),

@@ -1,7 +1,9 @@
 //! The command `memory`: calls of the C entries for valgrind's memcheck. Every slice is an allocation of exactly its length, so that an access beside it is seen, and
 //! what is lent for an answer is not initialised, so that a decision by its old content is seen.
 
+use crate::coach::{self, Judged, Table};
 use crate::generate::{self, CLASSES};
+use crate::library::Asked;
 use crate::random::Random;
 use crate::situation::{Situation, WORDS};
 use crate::{exact_build, library, refusals};
@@ -36,6 +38,29 @@ fn sheets(s: &Situation, random: &mut Random) -> bool {
         && call(&words[..random.within(0, WORDS as i64 - 1) as usize], s, room, -100, "")
 }
 
+/// Calls the coach's entry with `room` fresh bytes. Says whether it gives the number and writes exactly the text.
+fn call_coach(words: &[u32], s: &Situation, asked: Asked, room: usize, (number, text): (i64, String)) -> bool {
+    let words: Box<[u32]> = words.into();
+    let (xs, ys): (Box<[f32]>, Box<[f32]>) = (s.xs.as_slice().into(), s.ys.as_slice().into());
+    let mut lent: Vec<u8> = Vec::with_capacity(room);
+    let answer = library::coach_fresh(&words, &xs, &ys, asked, &mut lent, room);
+    answer == number && lent == text.as_bytes()
+}
+
+/// A line with exact room and with one byte too few, a legal player with an empty text, a number that no player has, and a word too few. Nothing is drawn here, so
+/// that the situations of a seed do not depend on it.
+fn lines(table: &Table, s: &Situation) -> bool {
+    let judged = Judged::new(table, s);
+    let words = s.to_words(None);
+    let call = |asked, room| call_coach(&words, s, asked, room, judged.expected(asked, room));
+    let line = judged.players(false).last().is_none_or(|&asked| {
+        let length = judged.expected(asked, usize::MAX).1.len();
+        call(asked, length) && call(asked, length - 1)
+    });
+    let legal = judged.players(true).first().is_none_or(|&asked| call(asked, 0));
+    line && legal && call((0, 21), 9) && call_coach(&words[1..], s, (0, 1), 9, (-100, String::new()))
+}
+
 /// The candidates' entry with exact room and one place too few, and the leaves.
 fn others(random: &mut Random) -> bool {
     let mut draw = |low, high| random.within(low, high) as f32 / 64.0;
@@ -53,12 +78,13 @@ fn others(random: &mut Random) -> bool {
 }
 
 pub fn run(count: u64, seed: u64) -> bool {
+    let Some(table) = coach::table() else { return false };
     let mut random = Random::new(seed);
     let mut differences = 0u64;
     for turn in 0..count {
         let s = generate::situation(&mut random, CLASSES[turn as usize % CLASSES.len()]);
-        differences += u64::from(!sheets(&s, &mut random)) + u64::from(!others(&mut random));
+        differences += u64::from(!sheets(&s, &mut random)) + u64::from(!others(&mut random)) + u64::from(!lines(&table, &s));
     }
-    println!("memory: {count} situations, four calls of the sheet and two of the candidates for each, {differences} differences");
+    println!("memory: {count} situations, four calls of the sheet, two of the candidates and up to five of the coach for each, {differences} differences");
     differences == 0
 }

@@ -4,9 +4,10 @@
 use std::time::Duration;
 
 use super::*;
-use crate::decision::{Decision, Place};
+use crate::decision::{Decision, Place, Settled};
 use crate::situation::{self, Situation, Wish};
 use crate::stand_ins::game_controller_core::types::{Player, Team};
+use crate::told;
 
 const SIDES: [Side; 2] = [Side::Home, Side::Away];
 const PHASES: [Phase; 5] =
@@ -42,20 +43,15 @@ const PENALTIES: [Penalty; 14] = [
 /// The decision on an accepted situation.
 pub fn decide(s: &Situation) -> Decision {
     let game = game_of(s);
-    let world = World { ball: s.ball, players: EnumMap::from_fn(|side| poses_of(s, side, |p| p.pose)) };
+    let world = world_of(s);
     let field = field_of(s);
     let margins = compute_margins(&game, &world, &field);
 
     let mut verdicts = [[0; NUM_PLAYERS]; 2];
     let mut leaving = Vec::new();
     for (side, player) in all_players() {
-        verdicts[side as usize][index(player)] =
-            match rules::is_illegally_positioned(&game, &world, &field, &margins, side, player) {
-                rules::Positioning::Legal => 0,
-                rules::Positioning::Illegal => 1,
-                rules::Positioning::IllegalUnlessKicker => 2,
-                rules::Positioning::InAvoidanceRegion => 3,
-            };
+        let verdict = rules::is_illegally_positioned(&game, &world, &field, &margins, side, player);
+        verdicts[side as usize][index(player)] = verdict_number(verdict);
         let allowance = s.players[side as usize][index(player)].allowance;
         if rules::is_leaving_the_field(&game, &world, &field, side, player, allowance) {
             leaving.push((side as u8, u8::from(player)));
@@ -83,6 +79,28 @@ pub fn decide(s: &Situation) -> Decision {
     let ball = ball_of(s, &mut gc, &world, &field);
     let (moved, references) = motion_of(s, &mut gc, &world, &field);
     Decision { verdicts, excess, kicker, leaving, moved, references, ball, place }
+}
+
+fn verdict_number(verdict: rules::Positioning) -> u8 {
+    match verdict {
+        rules::Positioning::Legal => 0,
+        rules::Positioning::Illegal => 1,
+        rules::Positioning::IllegalUnlessKicker => 2,
+        rules::Positioning::InAvoidanceRegion => 3,
+    }
+}
+
+/// The verdicts on an accepted situation, each with the test that recorded itself meanwhile; in a text without such tests there is none.
+pub fn settled(s: &Situation) -> Settled {
+    let (game, world, field) = (game_of(s), world_of(s), field_of(s));
+    let margins = compute_margins(&game, &world, &field);
+    let mut settled = [[(0, 0); NUM_PLAYERS]; 2];
+    for (side, player) in all_players() {
+        told::taken();
+        let verdict = rules::is_illegally_positioned(&game, &world, &field, &margins, side, player);
+        settled[side as usize][index(player)] = (verdict_number(verdict), told::taken());
+    }
+    settled
 }
 
 /// check_motion, with the situation's reference poses, and those after it.
@@ -228,6 +246,10 @@ fn poses_of(
     s.players[side as usize]
         .each_ref()
         .map(|player| which(player).map(|p| PlayerPose { x: p.x, y: p.y, theta: p.theta, radius: p.radius }))
+}
+
+fn world_of(s: &Situation) -> World {
+    World { ball: s.ball, players: EnumMap::from_fn(|side| poses_of(s, side, |p| p.pose)) }
 }
 
 fn game_of(s: &Situation) -> Game {

@@ -1,5 +1,6 @@
 //! Deliberate slips. Each is off unless it is the one that is switched on. Those up to ZERO_WITHOUT_SIGN are in the third build, into whose
-//! text build.rs puts the calls; the others are in the call of the entry, in the refusals and in the half turn.
+//! text build.rs puts the calls; the others are in the call of the entry, in the refusals and in the half turn. Those of the coach's lines
+//! have a list of their own: they are where the tests record themselves (told.rs) and where the lines are made (coach.rs).
 
 use std::cmp::Ordering;
 use std::sync::atomic::{AtomicUsize, Ordering::Relaxed};
@@ -68,6 +69,98 @@ pub const SLIPS: [&str; 29] = [
     "the half turn has no exception",
     "the exception looks at no contact",
 ];
+
+/// Numbers that are told as each other.
+const EXCHANGES: [(u8, u8); 15] = [
+    (1, 2),
+    (2, 3),
+    (3, 4),
+    (4, 5),
+    (5, 6),
+    (6, 7),
+    (7, 8),
+    (8, 9),
+    (9, 10),
+    (10, 11),
+    (11, 12),
+    (12, 13),
+    (13, 14),
+    (14, 15),
+    (15, 13),
+];
+/// Of two tests joined by "or" the later and the earlier; the later is asked first.
+const LATER_FIRST: [(u8, u8); 9] = [(5, 4), (7, 6), (9, 8), (11, 10), (12, 10), (12, 11), (14, 13), (15, 13), (15, 14)];
+
+// The slips in the coach's lines are numbered after all those above: the two lists, and then these.
+const EXCHANGED: usize = SLIPS.len();
+const ASKED_FIRST: usize = EXCHANGED + EXCHANGES.len();
+const COACH: usize = ASKED_FIRST + LATER_FIRST.len();
+pub const ELSE_AS_TEST: usize = COACH;
+pub const TENS_DROPPED: usize = COACH + 1;
+pub const UNLESS_KICKER_EXCHANGED: usize = COACH + 2;
+pub const REGION_EXCHANGED: usize = COACH + 3;
+pub const SIDES_EXCHANGED: usize = COACH + 4;
+pub const LENGTH_BEFORE_NUMBER: usize = COACH + 5;
+pub const DISTANCE_BEFORE_NUMBER: usize = COACH + 6;
+pub const NUMBER_BEFORE_BALL: usize = COACH + 7;
+pub const NUMBER_AS_BYTE: usize = COACH + 8;
+pub const REFUSAL_BEFORE_SIDE: usize = COACH + 9;
+pub const LEGAL_WITHOUT_ROOM: usize = COACH + 10;
+
+const COACH_SLIPS: [&str; 11] = [
+    "the else, 3, told as the test before it, 2",
+    "the tens of the number dropped",
+    "the words of illegal and of illegal unless kicker exchanged",
+    "the words of illegal and of in avoidance region exchanged",
+    "the words of the sides exchanged",
+    "8 told before the 4 of the number",
+    "5 told before the 4 of the number",
+    "the 4 of the number told before 3",
+    "257 taken for the number 1",
+    "a refusal told before the -100 of the side",
+    "an empty text refused for a player that stands legally",
+];
+
+/// Switches the build with slips on, and none of them.
+pub const NO_SLIP: usize = COACH + COACH_SLIPS.len();
+
+/// Of the slips of the sheet those that change a line, a refusal, the lent bytes or the half turn.
+const SEEN_BY_COACH: [usize; 10] = [
+    SQUARES,
+    PENALTY_AREA_EDGE_IN,
+    HALF_EDGE_IN,
+    POSTS_OUT,
+    WRITE_AFTER,
+    WRITE_ON_REFUSAL,
+    HIGHEST_REFUSAL,
+    PLACES_4095,
+    RADIUS_ZERO,
+    TURN_KEEPS_ENDS,
+];
+
+/// The slips that the command `coach-slips` tries, with what each does.
+pub fn of_coach() -> Vec<(usize, String)> {
+    let exchanges = EXCHANGES.map(|(a, b)| format!("{a} and {b} told as each other"));
+    let first = LATER_FIRST.map(|(later, earlier)| format!("{later} asked before {earlier}"));
+    let own = exchanges.into_iter().chain(first).chain(COACH_SLIPS.map(String::from));
+    (EXCHANGED..).zip(own).chain(SEEN_BY_COACH.map(|slip| (slip, SLIPS[slip].to_string()))).collect()
+}
+
+/// The number that a test records.
+pub fn recorded(number: u8) -> u8 {
+    if on(ELSE_AS_TEST) && number == 3 {
+        return 2;
+    }
+    match EXCHANGES.iter().enumerate().find(|(i, _)| on(EXCHANGED + i)) {
+        Some((_, &(a, b))) if number == a => b,
+        Some((_, &(a, b))) if number == b => a,
+        _ => number,
+    }
+}
+
+pub fn asked_first(later: u8, earlier: u8) -> bool {
+    LATER_FIRST.iter().position(|&pair| pair == (later, earlier)).is_some_and(|i| on(ASKED_FIRST + i))
+}
 
 pub fn switch(slip: Option<usize>) {
     SWITCHED_ON.store(slip.unwrap_or(usize::MAX), Relaxed);

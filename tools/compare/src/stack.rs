@@ -1,9 +1,12 @@
-//! The command `stack`: how many bytes of stack a call of the sheet's entry takes. The call runs on a stack of its own that was filled with a pattern before; what is
-//! no longer the pattern was used. A use that happens to write the pattern at the far end would not be seen.
+//! The command `stack`: how many bytes of stack a call of the sheet's entry takes, and one of the coach's. The call runs on a stack of its own that was filled with a
+//! pattern before; what is no longer the pattern was used. A use that happens to write the pattern at the far end would not be seen.
 
+use crate::exact_build::oracle::settled;
 use crate::generate::{self, CLASSES};
-use crate::library;
+use crate::library::{self, Asked};
 use crate::random::Random;
+use crate::refusals;
+use crate::situation::Situation;
 use std::arch::asm;
 
 const SIZE: usize = 1 << 20;
@@ -14,6 +17,8 @@ struct Call<'a> {
     xs: &'a [f32],
     ys: &'a [f32],
     sheet: &'a mut [u8],
+    /// The player that the coach's entry is asked for.
+    asked: Asked,
     answer: i64,
 }
 
@@ -21,6 +26,12 @@ extern "C" fn run_call(call: *mut Call) {
     // SAFETY: `on_stack` hands over a call that it has alone.
     let call = unsafe { &mut *call };
     call.answer = library::sheet(call.words, call.xs, call.ys, call.sheet);
+}
+
+extern "C" fn run_coach(call: *mut Call) {
+    // SAFETY: as above.
+    let call = unsafe { &mut *call };
+    call.answer = library::coach(call.words, call.xs, call.ys, call.asked, call.sheet);
 }
 
 extern "C" fn run_nothing(_: *mut Call) {}
@@ -39,20 +50,30 @@ fn on_stack(stack: &mut [u8], function: extern "C" fn(*mut Call), call: &mut Cal
     top - (stack.as_ptr() as usize + kept)
 }
 
+/// The first player that does not stand legally, so that a line is written, else Home 1.
+fn asked(s: &Situation) -> Asked {
+    let verdicts = refusals::refusal(s).is_none().then(|| settled(s));
+    let place = verdicts.and_then(|v| v.iter().flatten().position(|told| told.0 != 0)).unwrap_or(0) as u32;
+    (place / 20, place % 20 + 1)
+}
+
 pub fn run(count: u64, seed: u64) -> bool {
     let mut random = Random::new(seed);
     let mut stack = vec![0; SIZE];
     let mut sheet = vec![0; 7470];
-    let mut most = 0;
-    let mut least = usize::MAX;
+    let (mut most, mut most_coach) = (0, 0);
+    let (mut least, mut least_coach) = (usize::MAX, usize::MAX);
     for turn in 0..count {
         let s = generate::situation(&mut random, CLASSES[turn as usize % CLASSES.len()]);
         let words = s.to_words(None);
-        let mut call = Call { words: &words, xs: &s.xs, ys: &s.ys, sheet: &mut sheet, answer: 0 };
+        let mut call = Call { words: &words, xs: &s.xs, ys: &s.ys, sheet: &mut sheet, asked: asked(&s), answer: 0 };
         let nothing = on_stack(&mut stack, run_nothing, &mut call);
         let used = on_stack(&mut stack, run_call, &mut call) - nothing;
         (most, least) = (most.max(used), least.min(used));
+        let used = on_stack(&mut stack, run_coach, &mut call) - nothing;
+        (most_coach, least_coach) = (most_coach.max(used), least_coach.min(used));
     }
     println!("stack: {count} situations, from {least} to {most} bytes a call");
-    most < SIZE
+    println!("stack: from {least_coach} to {most_coach} bytes a call of the coach's entry");
+    most < SIZE && most_coach < SIZE
 }

@@ -1,5 +1,7 @@
+use mathlib.Core.Path.{refl}
+use Rattle.arguments.specs.Arguments.{sheetWord, coachWord, helpWord, commandOf}
+use Rattle.arguments.proofs.Words.{this-name, other-name}
 use borrow.Author.Needs.{needs}
-use Rattle.arguments.proofs.Words.{is-sheet, is-help, is-none}
 use Rattle.arguments.proofs.command_of.Statement.{statement}
 use Rattle.arguments.proofs.command_of.Tie as tie
 
@@ -10,7 +12,8 @@ is-word-requires : tie.Need-is-word-requires
 is-word-requires c κs = search needs
 
 returns : tie.Need-returns
-returns c = is-sheet _ _ (c .before .is-word .ensures) (c .if1 .taken)
+unfolding commandOf
+returns c = this-name _ sheetWord _ _ _ (c .before .is-word .ensures) (c .if1 .taken)
 
 slice-aggregate-is-word-2 : tie.Need-slice-aggregate-is-word-2
 slice-aggregate-is-word-2 c = search needs
@@ -19,10 +22,32 @@ is-word-requires-2 : tie.Need-is-word-requires-2
 is-word-requires-2 c κs = search needs
 
 returns-2 : tie.Need-returns-2
-returns-2 c = is-help _ _ _ (c .before .before .before .before .is-word .ensures) (c .before .before .before .if1 .left) (c .before .is-word2 .ensures) (c .if2 .taken)
+unfolding commandOf
+returns-2 c =
+    let first = c .before .before .before in
+    other-name _ sheetWord _ _ _ _ (first .before .is-word .ensures) (first .if1 .left) (this-name _ coachWord _ _ _ (c .before .is-word2 .ensures) (c .if2 .taken))
+
+slice-aggregate-is-word-3 : tie.Need-slice-aggregate-is-word-3
+slice-aggregate-is-word-3 c = search needs
+
+is-word-requires-3 : tie.Need-is-word-requires-3
+is-word-requires-3 c κs = search needs
 
 returns-3 : tie.Need-returns-3
-returns-3 c = is-none _ _ _ (c .before .before .before .before .is-word .ensures) (c .before .before .before .if1 .left) (c .before .is-word2 .ensures) (c .if2 .left)
+unfolding commandOf
+returns-3 c =
+    let second = c .before .before .before in
+    let first = second .before .before .before in
+    other-name _ sheetWord _ _ _ _ (first .before .is-word .ensures) (first .if1 .left)
+    (other-name _ coachWord _ _ _ _ (second .before .is-word2 .ensures) (second .if2 .left) (this-name _ helpWord _ _ _ (c .before .is-word3 .ensures) (c .if3 .taken)))
+
+returns-4 : tie.Need-returns-4
+unfolding commandOf
+returns-4 c =
+    let second = c .before .before .before in
+    let first = second .before .before .before in
+    other-name _ sheetWord _ _ _ _ (first .before .is-word .ensures) (first .if1 .left)
+    (other-name _ coachWord _ _ _ _ (second .before .is-word2 .ensures) (second .if2 .left) (other-name _ helpWord _ _ _ _ (c .before .is-word3 .ensures) (c .if3 .left) refl))
 
 pub command-of-spec : {M : Type 1} → statement M
 command-of-spec =
@@ -34,4 +59,7 @@ command-of-spec =
     slice-aggregate-is-word-2
     is-word-requires-2
     returns-2
-    returns-3)
+    slice-aggregate-is-word-3
+    is-word-requires-3
+    returns-3
+    returns-4)

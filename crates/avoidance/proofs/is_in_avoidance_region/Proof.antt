@@ -1,22 +1,20 @@
+use mathlib.Core.Path.{ap, _∙_}
+use Rattle.conditions.specs.Conditions.{isAvoidance}
 use Rattle.avoidance.specs.Avoidance.{isInAvoidanceRegion}
 use borrow.Author.Needs.{needs}
 use Rattle.avoidance.proofs.is_in_avoidance_region.Statement.{statement}
 use Rattle.avoidance.proofs.is_in_avoidance_region.Tie as tie
 
-must-avoid-requires : tie.Need-must-avoid-requires
-must-avoid-requires c κs = search needs
+avoidance-condition-requires : tie.Need-avoidance-condition-requires
+avoidance-condition-requires c κs = search needs
 
-is-seen-in-region-requires : tie.Need-is-seen-in-region-requires
-is-seen-in-region-requires c κs = search needs
+is-avoidance-requires : tie.Need-is-avoidance-requires
+is-avoidance-requires c κs = search needs
 
 returns : tie.Need-returns
 unfolding isInAvoidanceRegion
-returns c = simp (← c .before .before .must-avoid .ensures, c .before .if1 .taken, c .is-seen-in-region .ensures)
-
-returns-2 : tie.Need-returns-2
-unfolding isInAvoidanceRegion
-returns-2 c = simp (← c .before .must-avoid .ensures, c .if1 .left)
+returns c = c .is-avoidance .ensures ∙ ap isAvoidance (c .before .avoidance-condition .ensures)
 
 pub is-in-avoidance-region-spec : {M : Type 1} → statement M
 is-in-avoidance-region-spec =
-    tie.close (tie.spec must-avoid-requires is-seen-in-region-requires returns returns-2)
+    tie.close (tie.spec avoidance-condition-requires is-avoidance-requires returns)

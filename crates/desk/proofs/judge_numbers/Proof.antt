@@ -95,7 +95,7 @@ returns c =
     let same-y : firstY + a .nx + a .ny - (firstY + a .nx) ≡ a .ny = omega arith in
     let xs = places-told ns firstX (a .nx) (firstX + a .nx - firstX) (replicate mostPlaces zero32) _ same (first .ensures) (s .pre .0) (omega (arith, s .pre .2)) in
     let ys = places-told ns (firstY + a .nx) (a .ny) (firstY + a .nx + a .ny - (firstY + a .nx)) (replicate mostPlaces zero32) _ same-y (second .ensures) (s .pre .1) (omega (arith, s .pre .2)) in
-    prints-as _ _ (now (a .out)) _ (call .result) (printed-same _ _ _ _ _ _ _ (known .situation-of .ensures) xs ys) (call .ensures)
+    prints-as _ _ (now (a .out)) _ (call .result) (printed-same (a .wanted) _ _ _ _ _ _ _ (known .situation-of .ensures) xs ys) (call .ensures)
 
 pub judge-numbers-spec : {M : Type 1} → statement M
 judge-numbers-spec =

@@ -8,8 +8,8 @@ use borrow.Author.Needs.{needs}
 use Rattle.desk.proofs.judge_situation.Statement.{statement}
 use Rattle.desk.proofs.judge_situation.Tie as tie
 
-write-sheet-requires : tie.Need-write-sheet-requires
-write-sheet-requires c κs = search needs
+write-wanted-requires : tie.Need-write-wanted-requires
+write-wanted-requires c κs = search needs
 
 enum-known-answer : tie.Need-enum-known-answer
 enum-known-answer c = search needs
@@ -28,9 +28,9 @@ returns c =
     let known = c .before .before .before .before .before in
     let written = known .before .before .before .before in
     let a = written .before .before .before .before .before .args in
-    let first = written .write-sheet in
+    let first = written .write-wanted in
     let line = c .before .before .refused-line in
-    reply-printed (a .s) (now (a .xs)) (now (a .ys)) (now (a .out)) (Refused _) _ _ _ (sym (known .answer .given .1) ∙ first .ensures .0) (first .ensures .1) (ap Told (line .ensures .0)) (line .ensures .1)
+    reply-printed (a .wanted) (a .s) (now (a .xs)) (now (a .ys)) (now (a .out)) (Refused _) _ _ _ (sym (known .answer .given .1) ∙ first .ensures .0) (first .ensures .1) (ap Told (line .ensures .0)) (line .ensures .1)
 
 same-length-2 : tie.Need-same-length-2
 same-length-2 c = search needs
@@ -40,14 +40,14 @@ returns-2 c =
     let known = c .before in
     let written = known .before .before .before .before in
     let a = written .before .before .before .before .before .args in
-    let first = written .write-sheet in
-    reply-printed (a .s) (now (a .xs)) (now (a .ys)) (now (a .out)) (Written _) _ _ _ (sym (known .answer2 .given .1) ∙ first .ensures .0) (first .ensures .1) refl refl
+    let first = written .write-wanted in
+    reply-printed (a .wanted) (a .s) (now (a .xs)) (now (a .ys)) (now (a .out)) (Written _) _ _ _ (sym (known .answer2 .given .1) ∙ first .ensures .0) (first .ensures .1) refl refl
 
 pub judge-situation-spec : {M : Type 1} → statement M
 judge-situation-spec =
     tie.close
     (tie.spec
-    write-sheet-requires
+    write-wanted-requires
     enum-known-answer
     refused-line-requires
     enum-known-answer-2

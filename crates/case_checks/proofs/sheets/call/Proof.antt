@@ -23,29 +23,26 @@ element-copy-out-count-of-2 c = search needs
 count-of-requires-2 : tie.Need-count-of-requires-2
 count-of-requires-2 c κs = search needs
 
-situation-of-requires : tie.Need-situation-of-requires
-situation-of-requires c κs = search needs
-
 array-share-prefix-xs : tie.Need-array-share-prefix-xs
 array-share-prefix-xs c = search needs
 
-slice-aggregate-write-sheet : tie.Need-slice-aggregate-write-sheet
-slice-aggregate-write-sheet c = sym (length-take-le _ _ (search needs))
+slice-aggregate-written : tie.Need-slice-aggregate-written
+slice-aggregate-written c = sym (length-take-le _ _ (search needs))
 
 array-share-prefix-ys : tie.Need-array-share-prefix-ys
 array-share-prefix-ys c = search needs
 
-slice-aggregate-write-sheet-2 : tie.Need-slice-aggregate-write-sheet-2
-slice-aggregate-write-sheet-2 c = sym (length-take-le _ _ (search needs))
+slice-aggregate-written-2 : tie.Need-slice-aggregate-written-2
+slice-aggregate-written-2 c = sym (length-take-le _ _ (search needs))
 
-slice-relend-prefix-write-sheet : tie.Need-slice-relend-prefix-write-sheet
-slice-relend-prefix-write-sheet c = search needs
+slice-relend-prefix-written : tie.Need-slice-relend-prefix-written
+slice-relend-prefix-written c = search needs
 
-slice-aggregate-write-sheet-3 : tie.Need-slice-aggregate-write-sheet-3
-slice-aggregate-write-sheet-3 c = sym (length-take-le _ _ (search needs))
+slice-aggregate-written-3 : tie.Need-slice-aggregate-written-3
+slice-aggregate-written-3 c = sym (length-take-le _ _ (search needs))
 
-write-sheet-requires : tie.Need-write-sheet-requires
-write-sheet-requires c κs = search needs
+written-requires : tie.Need-written-requires
+written-requires c κs = search needs
 
 same-length : tie.Need-same-length
 same-length c = search needs
@@ -66,14 +63,13 @@ call-spec =
     count-of-requires
     element-copy-out-count-of-2
     count-of-requires-2
-    situation-of-requires
     array-share-prefix-xs
-    slice-aggregate-write-sheet
+    slice-aggregate-written
     array-share-prefix-ys
-    slice-aggregate-write-sheet-2
-    slice-relend-prefix-write-sheet
-    slice-aggregate-write-sheet-3
-    write-sheet-requires
+    slice-aggregate-written-2
+    slice-relend-prefix-written
+    slice-aggregate-written-3
+    written-requires
     same-length
     returns
     returns-2)

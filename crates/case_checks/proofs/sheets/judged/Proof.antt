@@ -10,16 +10,16 @@ returns c = search needs
 array-borrow-prefix-bytes : tie.Need-array-borrow-prefix-bytes
 array-borrow-prefix-bytes c = search needs
 
-slice-aggregate-judge : tie.Need-slice-aggregate-judge
-slice-aggregate-judge c = front-long 7680 170 (c .before .before .before .before .args .lent) (c .before .if1 .left)
+slice-aggregate-replied : tie.Need-slice-aggregate-replied
+slice-aggregate-replied c = front-long 7680 170 (c .before .before .before .before .args .lent) (c .before .if1 .left)
 
-judge-requires : tie.Need-judge-requires
-judge-requires c κs = search needs
+replied-requires : tie.Need-replied-requires
+replied-requires c κs = search needs
 
 slice-aggregate-holds : tie.Need-slice-aggregate-holds
 slice-aggregate-holds c =
     let after = c .before .before in
-    whole-long 7680 170 (after .before .before .before .before .before .args .lent) (after .before .before .if1 .left) (after .judge .last .1 .0) (after .judge .kept .1 .0)
+    whole-long 7680 170 (after .before .before .before .before .before .args .lent) (after .before .before .if1 .left) (after .replied .last .1 .1 .0) (after .replied .kept .1 .1 .0)
 
 holds-requires : tie.Need-holds-requires
 holds-requires c κs = search needs
@@ -42,8 +42,8 @@ judged-spec =
     (tie.spec
     returns
     array-borrow-prefix-bytes
-    slice-aggregate-judge
-    judge-requires
+    slice-aggregate-replied
+    replied-requires
     slice-aggregate-holds
     holds-requires
     enum-known-reply

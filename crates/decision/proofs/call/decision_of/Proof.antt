@@ -1,5 +1,5 @@
 -- Item by item, as the calls tell; both sides by their margins.
-use Rattle.decision.proofs.Told.{decision-told}
+use Rattle.decision.proofs.Told.{seen-margins, seen-count, decision-told}
 use borrow.Author.Needs.{needs}
 use Rattle.decision.proofs.call.decision_of.Statement.{statement}
 use Rattle.decision.proofs.call.decision_of.Tie as tie
@@ -33,7 +33,7 @@ returns c =
     let home = away .before in
     let away-seen = home .before .before .before in
     let home-seen = away-seen .before in
-    decision-told _ _ _ _ _ _ _ _ _ _ _ _ (home-seen .side-seen .ensures .0) (away-seen .side-seen2 .ensures .0) (home-seen .side-seen .ensures .1) (away-seen .side-seen2 .ensures .1) (home .team-decision .ensures) (away .team-decision2 .ensures) (kicker .kicking-player .ensures) (ball .ball-judgment .ensures) (c .wished-place .ensures)
+    decision-told _ _ _ _ _ _ _ _ _ _ _ _ (seen-margins _ _ _ _ _ (home-seen .side-seen .ensures)) (seen-margins _ _ _ _ _ (away-seen .side-seen2 .ensures)) (seen-count _ _ _ _ _ (home-seen .side-seen .ensures)) (seen-count _ _ _ _ _ (away-seen .side-seen2 .ensures)) (home .team-decision .ensures) (away .team-decision2 .ensures) (kicker .kicking-player .ensures) (ball .ball-judgment .ensures) (c .wished-place .ensures)
 
 pub decision-of-spec : {M : Type 1} → statement M
 decision-of-spec =
