@@ -7,8 +7,8 @@
  * length 0. Memory that is written to may not overlap what the same call reads.
  *
  * Float mode. What the entries answer is said of IEEE 754's default mode: rounding to nearest, subnormal numbers kept. A program that calls fesetround, sets flush-to-zero or
- * denormals-are-zero, or is linked with -ffast-math, runs in another. There the entries that compute with floats and answer an int64_t (referee_sheet, referee_coach, referee_candidates)
- * answer REFEREE_OTHER_FLOAT_MODE before anything else and keep every byte; referee_check computes with none. The three entries that answer a float (referee_hypot,
+ * denormals-are-zero, or is linked with -ffast-math, runs in another. There the entries that compute with floats and answer an int64_t (referee_sheet, referee_coach, referee_place,
+ * referee_candidates) answer REFEREE_OTHER_FLOAT_MODE before anything else and keep every byte; referee_check computes with none. The three entries that answer a float (referee_hypot,
  * referee_normalize_angle, referee_rem_euclid) have no answer for it: they want the default mode and do not look.
  *
  * Threads and stack. No entry has state of its own, so that threads may call them at the same time, each with its own memory to write to. A call takes no heap and less than
@@ -33,10 +33,14 @@ extern "C" {
 /* Every line for the coach has room here: the longest is `Home 20 illegal unless kicker: only the kicker may be in the centre circle`. */
 #define REFEREE_COACH_BYTES 74
 
+/* The words of a place. */
+#define REFEREE_PLACE_WORDS 5
+
 /* No list of candidates has more places than this. */
 #define REFEREE_CANDIDATES 8200
 
-/* Answers below 0 beside the refusals, which are -1 to -8: the words are no situation, or the side is neither Home nor Away; the processor's float mode is not the default. */
+/* Answers below 0 beside the refusals, which are -1 to -8: the words are no situation, the side is neither Home nor Away, or fewer than five words are lent for a place; the
+ * processor's float mode is not the default. */
 #define REFEREE_MALFORMED (-100)
 #define REFEREE_OTHER_FLOAT_MODE (-101)
 
@@ -45,8 +49,8 @@ extern "C" {
 int64_t referee_check(const uint32_t *words, size_t words_len);
 
 /* Decides on the situation that the words are, with the earlier places xs and ys of the batch, and writes its sheet at the front of the lent bytes; the bytes
- * after it are kept. Answers the number of bytes written, or -n for the refusal n (1 to 5, then 7), or REFEREE_MALFORMED, or REFEREE_OTHER_FLOAT_MODE; where the answer is below 0
- * nothing is written. */
+ * after it are kept. On lines of kind 7, 8 and 9 a zero of either sign is 0. Answers the number of bytes written, or -n for the refusal n (1 to 5, then 7), or REFEREE_MALFORMED, or
+ * REFEREE_OTHER_FLOAT_MODE; where the answer is below 0 nothing is written. */
 int64_t referee_sheet(const uint32_t *words, size_t words_len, const float *xs, size_t xs_len, const float *ys, size_t ys_len, uint8_t *sheet,
                       size_t sheet_len);
 
@@ -57,6 +61,13 @@ int64_t referee_sheet(const uint32_t *words, size_t words_len, const float *xs, 
  * answer is 0 or below nothing is written. */
 int64_t referee_coach(const uint32_t *words, size_t words_len, const float *xs, size_t xs_len, const float *ys, size_t ys_len, uint32_t side, uint32_t number,
                       uint8_t *text, size_t text_len);
+
+/* Decides as referee_sheet does, and writes the place that the situation wishes for into the first REFEREE_PLACE_WORDS of the lent words; those after them are kept. They are the
+ * side and the number, for the ball 2 and 0, and the patterns of x, y, and z or the heading, as decided: other than on the sheet, a zero has its sign. Answers 1; 0 where there is no
+ * place; or -n for the refusal n (1 to 5), or REFEREE_MALFORMED, before any refusal where fewer words are lent, or REFEREE_OTHER_FLOAT_MODE. Where the answer is 0 or below nothing is
+ * written. */
+int64_t referee_place(const uint32_t *words, size_t words_len, const float *xs, size_t xs_len, const float *ys, size_t ys_len, uint32_t *place,
+                      size_t place_len);
 
 /* Fills the front of the lent list with the candidates for a penalised player's place and keeps the rest. Answers how many there are, or -n for the refusal n
  * (5 or 6), or REFEREE_OTHER_FLOAT_MODE; where the answer is below 0 nothing is written. */

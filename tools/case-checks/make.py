@@ -8,7 +8,7 @@ usage: make.py            write the files
 Expected values are document 01's: case A and its lines under 'The sheet', the cases under 'Both sides of a line',
 and the table of refusals. What is printed for an input that is no situation was worked out by hand from the layout
 of an input; the coach's lines, document 02's first request, from the original's rules.rs and the words of
-docs/COACH.md. Nothing of the project is run.
+docs/COACH.md; the places with zeros, its second request, from the original's lib.rs. Nothing of the project is run.
 
 README.md has the form of a record. A situation is words of 32 bits; a float is its bit pattern. tools/words/layout.py
 has where each run of words begins; PLACES has the words that cases change, by name. Players are in the order Home 1
@@ -88,7 +88,8 @@ def player_places(side, number):
     k = place(side, number)
     at = AT["POSES"] + layout.POSE_WORDS * k
     name = player_name(side, number)
-    return {name: at, f"{name} x": at + 1, f"{name} y": at + 2, f"{name} radius": at + 4, f"{name} penalty": AT["PENALTIES"] + k}
+    pose_words = {name: at, f"{name} x": at + 1, f"{name} y": at + 2, f"{name} theta": at + 3, f"{name} radius": at + 4}
+    return {**pose_words, f"{name} penalty": AT["PENALTIES"] + k}
 
 
 # the words that cases change, by name
@@ -96,6 +97,7 @@ PLACES = {
     "length": AT["FIELD_LENGTH"],
     "penalty area length": AT["PENALTY_AREA_LENGTH"],
     "circle": AT["CENTER_CIRCLE_RADIUS"],
+    "ball radius": AT["BALL_RADIUS"],
     "distance": AT["PENALTY_PLACEMENT_DISTANCE"],
     "sides": AT["SIDES"],
     "state": AT["STATE"],
@@ -143,9 +145,10 @@ EMPTY_FIELD = edited(A, {**NOBODY, "ball x": 0.0, "ball y": 0.0})
 # the same with 0 in every word of the players and the ball, for the coach's lines: these situations are shorter to write
 BARE_FIELD = words_of({name: words for name, words in CASE_A.items() if name not in ("POSES", "PREVIOUSLY_INSIDE", "BALL")})
 
-# the patterns of a NaN, and of the least numbers above 64, 1 and 0
+# the patterns of a NaN, of the least numbers above 64, 1 and 0, and of the greatest below 0
 NAN = 0x7FC0_0000
 ABOVE_64, ABOVE_1, ABOVE_0 = 0x4280_0001, 0x3F80_0001, 0x0000_0001
+BELOW_0 = 0x8000_0001
 
 
 # ---- records ----
@@ -291,6 +294,46 @@ def kick_off():
     return [
         written("kick-off in Set", EMPTY_FIELD, {"state": SET, **player}, [(0, 2, 1, 1), (1, 0, 2, 1)]),
         written("kick-off in Playing", EMPTY_FIELD, {"state": PLAYING, **player}, [(0, 2, 1, 1), (1, 0, 2, 2)]),
+    ]
+
+
+# Document 02's second request: on the lines of a place a zero of either sign is 0; the numbers next to it have their patterns, 1 and 2147483649.
+
+
+def free_kick_places():
+    """A direct free kick is taken where the ball is, and its radius is z. The ball is in the field, and so not judged. The first two are the example of document 02's second
+    request: a free kick at the centre mark, and the same with the field turned."""
+
+    def ball(name, x, y, values, radius=0.125, sides=LEFT):
+        edits = {"sides": sides, "set play": DIRECT, "wish": 1, "ball x": x, "ball y": y, "ball radius": radius}
+        return written(f"free kick, {name}", BARE_FIELD, edits, place_rows(NO_SIDE, 0, *values))
+
+    half, eighth = bits(0.5), bits(0.125)
+    return [
+        ball("ball at (0, 0)", 0.0, 0.0, (0, 0, eighth)),
+        ball("ball at (-0, -0), turned", -0.0, -0.0, (0, 0, eighth), sides=RIGHT),
+        ball("ball x above 0, y -0", ABOVE_0, -0.0, (1, 0, eighth)),
+        ball("ball x below -0, y 0", BELOW_0, 0.0, (2147483649, 0, eighth)),
+        ball("ball x -0, y above 0", -0.0, ABOVE_0, (0, 1, eighth)),
+        ball("ball x 0, y below -0", 0.0, BELOW_0, (0, 2147483649, eighth)),
+        ball("ball of radius -0", 0.5, 0.5, (half, half, 0), radius=-0.0),
+        ball("ball of radius above 0", 0.5, 0.5, (half, half, 1), radius=ABOVE_0),
+    ]
+
+
+def keeper_places():
+    """Home takes a penalty kick in Set. Away's goalkeeper, 1, is at x -6, which is not on its goal line, and is placed at x -(7 - 1/32) = -6.96875, with its y, since |y| is at most
+    2.5/2 - 1/4, and with its heading. It stands legally, since it is the goalkeeper of the side that does not kick, and nobody is there to kick."""
+    kick = {"state": SET, "set play": PENALTY_KICK, "kicking side": HOME, "away goalkeeper": 1, "wish": 5, "wished side": AWAY}
+
+    def keeper(name, y, theta, values):
+        edits = {**kick, **stands(AWAY, 1, -6.0, y), "away 1 theta": theta}
+        return written(f"goalkeeper, {name}", BARE_FIELD, edits, place_rows(AWAY, 1, 0xC0DF_0000, *values))
+
+    return [
+        keeper("heading -0", 0.5, -0.0, (bits(0.5), 0)),
+        keeper("heading above 0, y -0", -0.0, ABOVE_0, (0, 1)),
+        keeper("heading below -0, y below -0", BELOW_0, BELOW_0, (2147483649, 2147483649)),
     ]
 
 
@@ -892,6 +935,7 @@ def main():
     """Writes the files, compares them, or prints the names."""
     assert len(A) == layout.WORDS and set(CASE_A) <= set(AT), len(A)
     cases = whole() + in_set() + goal_line() + touchline() + placements() + kick_off()
+    cases += free_kick_places() + keeper_places()
     cases += refusals() + several() + inputs() + sheets_of_a()
     cases += coach_lines() + coach_room() + coach_numbers() + judged_coach()
     if sys.argv[1:] == ["--list"]:

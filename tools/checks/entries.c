@@ -1,4 +1,4 @@
-/* Tries referee_sheet, referee_coach, referee_candidates and referee_check of libreferee_c.a as a C program calls them, in every float mode.
+/* Tries referee_sheet, referee_coach, referee_place, referee_candidates and referee_check of libreferee_c.a as a C program calls them, in every float mode.
  *
  * usage: entries CASE_A SHEET default|flushing
  *
@@ -69,6 +69,39 @@ static const Coach coaches[] = {
 };
 
 enum { COACHES = sizeof coaches / sizeof coaches[0] };
+
+/* Places that are wished for on A's field. At a direct free kick the ball stays at (0, 0), or with the ends exchanged at (-0, -0), and its radius, 0.125, is z. Document 01's
+ * penalty place of Home 2 of radius 0.25 at (0, -0), with nobody else there: 5, -5.25 and PI/2. Away's goalkeeper of radius 0.25 at (-6, 0.5) is placed on the centre of its goal
+ * line, x = -(7 - 1/32), and keeps its y, which is between the posts, and its heading, -0. The free kick is also refused: with a ball at z NaN. */
+static uint32_t free_kick[REFEREE_WORDS], turned[REFEREE_WORDS], penalty[REFEREE_WORDS], keeper[REFEREE_WORDS], refused_kick[REFEREE_WORDS];
+
+/* A call of referee_place with so many lent words, what it answers and what it writes. */
+typedef struct {
+    const char *name;
+    const uint32_t *words;
+    size_t length, room;
+    int answer;
+    uint32_t place[REFEREE_PLACE_WORDS];
+} Placing;
+
+enum { PLACE_ROOM = REFEREE_PLACE_WORDS + 4 };
+
+static const Placing placings[] = {
+    {"0 without a wish", cases[0].words, REFEREE_WORDS, REFEREE_PLACE_WORDS, 0, {0}},
+    {"a free kick at the centre mark", free_kick, REFEREE_WORDS, REFEREE_PLACE_WORDS, 1, {2, 0, 0, 0, 0x3e000000}},
+    {"the same turned, zeros with their sign", turned, REFEREE_WORDS, REFEREE_PLACE_WORDS, 1, {2, 0, 0x80000000, 0x80000000, 0x3e000000}},
+    {"words past the fifth are kept", turned, REFEREE_WORDS, PLACE_ROOM, 1, {2, 0, 0x80000000, 0x80000000, 0x3e000000}},
+    {"a penalty place", penalty, REFEREE_WORDS, REFEREE_PLACE_WORDS, 1, {0, 2, 0x40a00000, 0xc0a80000, 0x3fc90fdb}},
+    {"a goalkeeper with the heading -0", keeper, REFEREE_WORDS, REFEREE_PLACE_WORDS, 1, {1, 1, 0xc0df0000, 0x3f000000, 0x80000000}},
+    {"-3", refused_kick, REFEREE_WORDS, REFEREE_PLACE_WORDS, -3, {0}},
+    {"-100 of four words lent", free_kick, REFEREE_WORDS, REFEREE_PLACE_WORDS - 1, -100, {0}},
+    {"-100 without words lent", free_kick, REFEREE_WORDS, 0, -100, {0}},
+    {"-100 of four words lent without a wish", cases[0].words, REFEREE_WORDS, REFEREE_PLACE_WORDS - 1, -100, {0}},
+    {"-100 of four words lent before -3", refused_kick, REFEREE_WORDS, REFEREE_PLACE_WORDS - 1, -100, {0}},
+    {"-100 of 562 words", free_kick, REFEREE_WORDS - 1, REFEREE_PLACE_WORDS, -100, {0}},
+};
+
+enum { PLACINGS = sizeof placings / sizeof placings[0] };
 
 static void stop(const char *why) {
     printf("FAILED\ttools/checks/entries.c\t%s\n", why);
@@ -150,6 +183,22 @@ static bool coach_is(const Coach *call, bool right) {
     return true;
 }
 
+/* The same of a call of referee_place. The filler is no word of an answer: patterns of NaNs. */
+static bool place_is(const Placing *call, bool right) {
+    static const float none[1];
+    uint32_t lent[PLACE_ROOM], want[PLACE_ROOM];
+    for (size_t i = 0; i < PLACE_ROOM; i++)
+        lent[i] = want[i] = 0xffc00000u | (uint32_t)i;
+    if (right && call->answer == 1)
+        memcpy(want, call->place, sizeof call->place);
+    long long n = referee_place(call->words, call->length, none, 0, none, 0, lent, call->room);
+    if (n != (right ? call->answer : -101))
+        return wrong("referee_place", call->name, n, "");
+    if (memcmp(lent, want, sizeof lent) != 0)
+        return wrong("referee_place", call->name, n, ", other words");
+    return true;
+}
+
 static bool check_is(const char *name, const uint32_t *words, size_t length, long long want) {
     long long n = referee_check(words, length);
     return n == want ? true : wrong("referee_check", name, n, "");
@@ -164,6 +213,8 @@ static void in_mode(const char *name, bool right) {
     ok &= sheet_is("no words", cases[0].words, 0, right ? -100 : -101, "");
     for (size_t i = 0; i < COACHES; i++)
         ok &= coach_is(&coaches[i], right);
+    for (size_t i = 0; i < PLACINGS; i++)
+        ok &= place_is(&placings[i], right);
     ok &= candidates_are(REFEREE_CANDIDATES, right ? 6 : -101);
     ok &= candidates_are(7, right ? 6 : -101);
     ok &= candidates_are(5, right ? -6 : -101);
@@ -239,6 +290,14 @@ static void coach_calls(void) {
     }
 }
 
+static void place_calls(void) {
+    char name[100];
+    for (size_t i = 0; i < PLACINGS; i++) {
+        snprintf(name, sizeof name, "referee_place: %s", placings[i].name);
+        tell(name, place_is(&placings[i], true));
+    }
+}
+
 static void put_pose(uint32_t *words, uint32_t side, uint32_t number, uint32_t x, uint32_t y) {
     uint32_t pose[REFEREE_POSE_WORDS] = {1, x, y, 0, 0x3e800000}; /* of radius 0.25 */
     memcpy(words + REFEREE_W_POSES + REFEREE_POSE_WORDS * (20 * side + number - 1), pose, sizeof pose);
@@ -260,6 +319,37 @@ static void make_coach_words(void) {
     with_distance[REFEREE_W_PENALTY_PLACEMENT_DISTANCE] = 0x3c23d70a; /* 0.01 */
     memcpy(with_ball, in_set, sizeof in_set);
     with_ball[REFEREE_W_BALL + 2] = 0x7fc00000; /* NaN */
+}
+
+static void put_ball(uint32_t *words, uint32_t x, uint32_t y, uint32_t z) {
+    uint32_t ball[3] = {x, y, z};
+    memcpy(words + REFEREE_W_BALL, ball, sizeof ball);
+}
+
+static void make_place_words(void) {
+    memcpy(free_kick, cases[0].words, sizeof free_kick);
+    free_kick[REFEREE_W_SET_PLAY] = REFEREE_SET_PLAY_DIRECT_FREE_KICK;
+    free_kick[REFEREE_W_WISH] = REFEREE_WISH_BALL_AT_RESTART;
+    put_ball(free_kick, 0, 0, 0);
+    memcpy(turned, free_kick, sizeof turned);
+    turned[REFEREE_W_SIDES] = REFEREE_SIDE_MAPPING_HOME_DEFENDS_RIGHT_GOAL;
+    put_ball(turned, 0x80000000, 0x80000000, 0);
+    memcpy(refused_kick, free_kick, sizeof refused_kick);
+    put_ball(refused_kick, 0, 0, 0x7fc00000); /* NaN */
+
+    memcpy(penalty, cases[0].words, sizeof penalty);
+    memset(penalty + REFEREE_W_POSES, 0, 200 * sizeof(uint32_t));
+    put_pose(penalty, REFEREE_SIDE_HOME, 2, 0, 0x80000000);
+    penalty[REFEREE_W_WISH] = REFEREE_WISH_FOR_PENALTY;
+    penalty[REFEREE_W_WISHED_SIDE] = REFEREE_SIDE_HOME;
+    penalty[REFEREE_W_WISHED_PLAYER] = 2;
+
+    memcpy(keeper, cases[0].words, sizeof keeper);
+    put_pose(keeper, REFEREE_SIDE_AWAY, 1, 0xc0c00000, 0x3f000000); /* (-6, 0.5) */
+    keeper[REFEREE_W_POSES + REFEREE_POSE_WORDS * 20 + 3] = 0x80000000;
+    keeper[REFEREE_W_GOALKEEPERS + 1] = 1;
+    keeper[REFEREE_W_WISH] = REFEREE_WISH_GOALKEEPER;
+    keeper[REFEREE_W_WISHED_SIDE] = REFEREE_SIDE_AWAY;
 }
 
 static void read_cases(const char *case_a, const char *sheet) {
@@ -302,11 +392,13 @@ int main(int count, char **arguments) {
         stop("usage: entries CASE_A SHEET default|flushing");
     read_cases(arguments[1], arguments[2]);
     make_coach_words();
+    make_place_words();
     if (strcmp(arguments[3], "flushing") == 0)
         fast_math();
     else {
         modes();
         coach_calls();
+        place_calls();
         check_words();
     }
     puts("end");

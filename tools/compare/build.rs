@@ -198,6 +198,12 @@ fn slips(lib: &mut Text, rules: &mut Text) {
         1,
     );
     lib.replace(".copysign(pose.y)", ".copysign(crate::slips::zero_sign(pose.y))", 1);
+    // The numbers of a place, but for the ball of a shoot-out.
+    lib.replace("position: [x, y, field.ball_radius]", "position: [x, y, field.ball_radius].map(crate::slips::placed)", 1);
+    lib.replace("position: [x, 0.0, field.ball_radius]", "position: [x, 0.0, field.ball_radius].map(crate::slips::placed)", 1);
+    lib.replace("x: sign * team_x,", "x: crate::slips::placed(sign * team_x),", 2);
+    lib.replace("y: pose.y.clamp(-max_y, max_y),", "y: crate::slips::placed(pose.y.clamp(-max_y, max_y)),", 1);
+    lib.replace("theta: pose.theta,", "theta: crate::slips::placed(pose.theta),", 1);
 }
 
 /// How a test that records itself begins; its number follows.

@@ -104,10 +104,13 @@ def main():
                 index += 1
                 if not FIRST <= index <= LAST:
                     continue
-                (out / file).write_text("\n".join(lines[:number] + [edited] + lines[number + 1:]))
+                with_edit = "\n".join(lines[:number] + [edited] + lines[number + 1:])
+                (out / file).write_text(with_edit)
                 if build().returncode != 0:
                     count["not compiled"] += 1
                     continue
+                if (out / file).read_text() != with_edit:
+                    sys.exit(f"edit {index}: build.rs has made the text anew, since the archive or the original has changed: begin again")
                 try:
                     words, given = (["until", SITUATIONS, "1"], "") if SITUATIONS.isdigit() else (["replay"], Path(SITUATIONS).read_text())
                     run = subprocess.run(

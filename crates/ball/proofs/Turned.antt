@@ -15,7 +15,7 @@ use Rattle.floats.specs.Leaves.{abs, withSign}
 use Rattle.floats.specs.Height.{height}
 use Rattle.floats.specs.Values.{posZero, Alike, Number}
 use Rattle.floats.proofs.Laws.Signs.{alike-sym, alike-trans, alike-abs, alike-neg, lt-neg}
-use Rattle.floats.proofs.Laws.Zeros.{alike-lt-left, alike-lt-right, alike-eq}
+use Rattle.floats.proofs.Laws.Zeros.{alike-lt-left, alike-lt-right, alike-eq, zero-plain, zero-alike}
 use Rattle.floats.proofs.Laws.Height.{height-eq, height-same}
 use Rattle.floats.proofs.Laws.Order.{lt→<, nlt→≤, posZero-number, neg-number}
 use Rattle.game.specs.Game.{opponent, isShootout}
@@ -66,10 +66,6 @@ unfolding judgeHalf
 half-changed a b f ball goal contact d = cc (past-goal-line-changed a b f ball, past-touchline-changed a b f ball, in-goal-changed a b f ball)
 
 -- ---- the half that holds the ball
-zero-plain : zero32 ≡ posZero
-unfolding ofBits
-zero-plain = refl
-
 zeros-alike : Alike posZero (neg posZero)
 unfolding neg withSign
 zeros-alike = inr (refl, refl)
@@ -112,11 +108,6 @@ defending-turned : (b : Bool) (sides : SideMapping) (ball : Ball) → Number bin
 defending-turned b sides ball n z = ap (defenderOf (exchanged sides)) (turned-side (ball .x) n z) ∙ other-half sides (lt zero32 (ball .x))
 
 -- ---- a ball at x zero
-zero-alike : (x : Float) → Number binary32 x → isZero x ≡ true → Alike x posZero
-zero-alike x n z =
-    height-same binary32 x posZero (n .fit) (posZero-number binary32 .fit)
-    (eqb-true _ _ (sym (height-eq binary32 x posZero (n .fit) (posZero-number binary32 .fit) (n .no-nan) (posZero-number binary32 .no-nan)) ∙ ap (eq x) (sym zero-plain) ∙ z))
-
 -- it is not past a goal line
 not-past : (f : FieldDimensions) (ball : Ball) → Number binary32 (ball .x) → lt (goalLineEdge f) posZero ≡ false → isZero (ball .x) ≡ true → pastGoalLine f ball ≡ false
 not-past f ball n m z = ap (lt (goalLineEdge f)) (alike-abs (ball .x) posZero (zero-alike (ball .x) n z) ∙ plain) ∙ m

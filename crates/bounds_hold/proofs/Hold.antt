@@ -2,26 +2,19 @@
 use mathlib.Core.Path.{_≡_, sym, ap, subst, _∙_}
 use mathlib.Core.Bool.{Bool, true, false, _&&_, cond}
 use mathlib.Core.List.{List}
-use Prim.Native.Nat.{ℕ, zero, suc, _+_, _*_}
-use native.Mathlib.Nat.{le-trans, le-of-eq}
-use borrow.Author.Tests.{ltb-true, ltb-false}
-use lib.Dec.{T, ltb, leb, eqb}
-use lib.ListN.{length, List·getD-eq-default}
+use Prim.Native.Nat.{ℕ, _+_}
+use lib.Dec.{T, leb, eqb}
+use lib.ListN.{length}
 use lib.Ieee.{Float, binary32, neg, le, lt, fits}
-use lib.Ieee.Bits.{ofBits-fits}
-use Rattle.lists.proofs.Bools.{both-true, left-true, right-true, by-test}
-use Rattle.lists.specs.Table.{table}
-use Rattle.lists.proofs.Table.{table-at, length-table}
+use Rattle.lists.proofs.Bools.{both-true, left-true, right-true}
 use Rattle.floats.specs.Arithmetic.{zero32, one, four, sixtyFour}
 use Rattle.floats.proofs.Laws.Order.{le-numbers}
-use Rattle.game.specs.Players.{teamOf, playerNumbered, nobody}
+use Rattle.game.specs.Players.{teamOf, playerNumbered}
 use Rattle.game.specs.declared.Placement.the-variants.{NoPlace}
 use Rattle.game.specs.declared.PlayerPose.{PlayerPose}
-use Rattle.game.specs.declared.Player.{Player}
 use Rattle.game.specs.declared.SeenPose.{SeenPose}
 use Rattle.game.specs.declared.SeenPose.the-variants.{Absent, Present}
 use Rattle.game.specs.declared.Side.{Side}
-use Rattle.game.specs.declared.Side.the-variants.{Home, Away}
 use Rattle.game.specs.declared.Situation.{Situation}
 use Rattle.game.specs.declared.Wish.{Wish}
 use Rattle.game.specs.declared.Wish.the-variants.{ForPenalty}
@@ -33,7 +26,8 @@ use Rattle.penalty.specs.Penalty.{lowestOf, highestOf, teamPlace, posePlace, se
 use Rattle.penalty.proofs.Bounds.{CandidateSizes, bounds-in-order, lowest-most, highest-least, never-unfit, all-tried, place-meant}
 use Rattle.refusals.specs.Refusals.{isCoordinate, isRadius, poseFits, seenFits, teamFits, placesFit, listsFit, posesFit, wishFits, refusalOf}
 use Rattle.refusals.proofs.Accepted.{Accepted, accepted, field-ranges, numbered-fits, team-fits, wished-fits}
-use Rattle.words.specs.Words.{floatAt, poseAt, seenPoseAt, flagAt, fieldOf, playerOf, teamIn, situationOf}
+use Rattle.words.specs.Words.{poseAt, fieldOf, situationOf}
+use Rattle.words.proofs.Fits.{float-fits, numbered-poses}
 use Rattle.bounds_hold.specs.Bounds.{InOrder, PenaltyBounds, spaceAt, PlacedAmongAll, BoundsHold, FloatsFit, HoldsOfAccepted, HoldsOfWords}
 
 -- what compares is a number
@@ -141,46 +135,21 @@ module _ (s : Situation) (xs ys : List Float) (fit : FloatsFit s) (e : refusalOf
 pub holds-of-accepted : HoldsOfAccepted
 holds-of-accepted = holds
 
--- ---- a situation in words: each float is a pattern's
-at-fits : (w : List ℕ) (i : ℕ) → T (fits binary32 (floatAt w i))
-unfolding floatAt
-at-fits w i = ofBits-fits binary32 _
-
+-- ---- a situation in words
 -- the radius of a pose, where there is one
 abbrev RadiusFits : SeenPose → Type 0
 RadiusFits Absent = T true
 RadiusFits (Present p) = T (fits binary32 (p .radius))
 
-seen-radius : (w : List ℕ) (i : ℕ) → RadiusFits (seenPoseAt w i)
-unfolding seenPoseAt poseAt
-seen-radius w i = go (flagAt w i)
-  where
-    go : (b : Bool) → RadiusFits (cond b (Present (poseAt w (i + 1))) Absent)
-    go true = at-fits w (i + 1 + 3)
-    go false = tt
-
--- of a player by its number; past the twentieth there is nobody
-numbered-radius : (w : List ℕ) (k n : ℕ) → RadiusFits (playerNumbered (teamIn w k) n .pose)
-unfolding teamIn playerOf
-numbered-radius w k zero = tt
-numbered-radius w k (suc i) =
-    by-test (ltb i 20)
-    (λ t. subst (λ (q : Player). RadiusFits (q .pose)) (sym (table-at 20 (λ j. playerOf w (20 * k + j)) nobody i (ltb-true i 20 t))) (seen-radius w _))
-    (λ f. subst (λ (q : Player). RadiusFits (q .pose)) (sym (List·getD-eq-default (table 20 (λ j. playerOf w (20 * k + j))) nobody (le-trans (le-of-eq (length-table 20 (λ j. playerOf w (20 * k + j)))) (ltb-false i 20 f)))) tt)
-
 words-fit : (w : List ℕ) → FloatsFit (situationOf w)
-unfolding situationOf fieldOf
+unfolding situationOf fieldOf poseAt
 words-fit w = record {
-  length = at-fits w _;
-  mark = at-fits w _;
-  line = at-fits w _;
-  distance = at-fits w _;
-  radius = λ side number p h. subst RadiusFits h (go side number);
+  length = float-fits w _;
+  mark = float-fits w _;
+  line = float-fits w _;
+  distance = float-fits w _;
+  radius = λ side number p h. subst RadiusFits h (numbered-poses RadiusFits tt w (λ i. float-fits w (i + 3)) side number);
 }
-  where
-    go : (side : Side) (number : ℕ) → RadiusFits (playerNumbered (teamOf (situationOf w) side) number .pose)
-    go Home number = numbered-radius w 0 number
-    go Away number = numbered-radius w 1 number
 
 pub holds-of-words : HoldsOfWords
 holds-of-words w xs ys e = holds (situationOf w) xs ys (words-fit w) e

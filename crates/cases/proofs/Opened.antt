@@ -16,12 +16,12 @@ use Rattle.excess.specs.Excess.{goalAreaExcess}
 use Rattle.kicker.specs.Kicker.{determineKickingPlayer}
 use Rattle.motion.specs.Motion.{movedPlayers, referencesAfter}
 use Rattle.ball.specs.Ball.{ballJudgment}
-use Rattle.places.specs.Places.{ballAtRestart, ballInSet, penaltyShotPlace}
+use Rattle.places.specs.Places.{ballAtRestart, ballInSet, penaltyShotPlace, penaltyGoalkeeperPlace}
 use Rattle.penalty.specs.Penalty.{placeForPenalty}
 use Rattle.refusals.specs.Refusals.{poseFits, refusalOf}
 use Rattle.decision.specs.Decision.{teamVerdicts, emptyList, teamExcess, kickingPlayer, leavingPlayers, ballCalledAmong, ballCalled, wishedPlace, teamMargins, teamDecision, sideMargins, sideDecision, decisionOf, answerOf}
 use Rattle.lines.specs.Line.{columnByte, columnsOf, lineOf, linesOf}
-use Rattle.sheet.specs.Rows.{verdictRows, listRows, ballRows, placeRows, rowsOf, sheetRows}
+use Rattle.sheet.specs.Rows.{verdictRows, listRows, ballRows, placedValue, placeRows, rowsOf, sheetRows}
 use Rattle.sheet.specs.Sheet.{textOf}
 use Rattle.call.specs.Call.{sheetAnswer, sheetAfter}
 
@@ -32,10 +32,10 @@ floats = tt
 
 -- an answer, down to the floats
 unfoldable pub answers : Unit {0}
-unfolding floats everyTo flatTo fronted listed numbersWhere marginsOf computeMargins isIllegallyPositioned conditionOf avoidanceCondition regionCondition isAvoidanceRegionActive kickOffCondition attackCondition defenceCondition penaltyKickCondition crossed candidatesTo unfit firstCandidate countTo firstTo playersOnField goalAreaExcess determineKickingPlayer movedPlayers referencesAfter ballJudgment ballAtRestart ballInSet penaltyShotPlace placeForPenalty poseFits refusalOf teamVerdicts emptyList teamExcess kickingPlayer leavingPlayers ballCalledAmong ballCalled wishedPlace teamMargins teamDecision sideMargins sideDecision decisionOf answerOf
+unfolding floats everyTo flatTo fronted listed numbersWhere marginsOf computeMargins isIllegallyPositioned conditionOf avoidanceCondition regionCondition isAvoidanceRegionActive kickOffCondition attackCondition defenceCondition penaltyKickCondition crossed candidatesTo unfit firstCandidate countTo firstTo playersOnField goalAreaExcess determineKickingPlayer movedPlayers referencesAfter ballJudgment ballAtRestart ballInSet penaltyShotPlace penaltyGoalkeeperPlace placeForPenalty poseFits refusalOf teamVerdicts emptyList teamExcess kickingPlayer leavingPlayers ballCalledAmong ballCalled wishedPlace teamMargins teamDecision sideMargins sideDecision decisionOf answerOf
 answers = tt
 
 -- a sheet, down to the floats
 unfoldable pub sheets : Unit {0}
-unfolding answers columnByte columnsOf lineOf linesOf verdictRows listRows ballRows placeRows rowsOf sheetRows textOf sheetAnswer sheetAfter
+unfolding answers columnByte columnsOf lineOf linesOf verdictRows listRows ballRows placedValue placeRows rowsOf sheetRows textOf sheetAnswer sheetAfter
 sheets = tt

@@ -31,4 +31,14 @@ table =
       penalty-place-accepted = refl;
       kick-off-in-set = refl;
       kick-off-in-playing = refl;
+      zeros-on-sheet = refl;
+      zeros-turned-on-sheet = refl;
+      zeros-decided = refl;
+      radius-on-sheet = refl;
+      radius-decided = refl;
+      heading-on-sheet = refl;
+      heading-decided = refl;
+      least-x = refl;
+      least-y = refl;
+      least-heading = refl;
     }

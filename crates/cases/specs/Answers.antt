@@ -15,7 +15,11 @@ use Rattle.game.specs.declared.Positioning.{Positioning}
 use Rattle.game.specs.declared.Positioning.the-variants.{Legal}
 use Rattle.game.specs.declared.ReferencePose.the-variants.{NoReference}
 use Rattle.game.specs.declared.SideDecision.{SideDecision}
+use Rattle.game.specs.declared.Situation.{Situation}
+use Rattle.decision.specs.Decision.{answerOf}
 use Rattle.decision.specs.declared.call.Answer.{Answer}
+use Rattle.lines.specs.declared.Row.{Row}
+use Rattle.sheet.specs.Rows.{row, sheetRows}
 
 -- ---- players
 -- no player
@@ -62,6 +66,14 @@ ownGoalAreas [] = []
 ownGoalAreas (m ∷ ms) = ownGoalArea (m .margins) (ownGoalAreas ms)
 
 -- ---- the sheet
+-- the lines of the answer to a situation with no earlier places
+abbrev pub linesFor : Situation → List Row
+linesFor s = sheetRows (answerOf s [] [] .decision)
+
+-- the header, and a place alone
+abbrev pub onlyPlace : ℕ → ℕ → ℕ → ℕ → ℕ → List Row
+onlyPlace side number x y z = row 0 2 3 1 ∷ row 7 side number x ∷ row 8 side number y ∷ row 9 side number z ∷ []
+
 -- a number of one digit, right-justified with blanks in 11 columns
 abbrev pub digit : ℕ → List ℕ
 digit d = replicate 10 32 ++ ((48 + d) ∷ [])

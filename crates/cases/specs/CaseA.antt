@@ -1,24 +1,27 @@
 -- Case A of document 01, its variants, and the situations of the document's other cases. Definitions only.
-use mathlib.Core.Bool.{true}
+use mathlib.Core.Bool.{true, false}
 use mathlib.Core.List.{List, [], _∷_}
-use lib.Ieee.{Float, neg}
+use lib.Ieee.{Float, binary32, neg, ofBits}
+use lib.ListN.{replicate}
+use Rattle.lists.specs.Put.{fronted}
 use Rattle.floats.specs.Arithmetic.{zero32}
 use Rattle.game.specs.declared.Ball.{Ball}
+use Rattle.game.specs.declared.MaybeNumber.the-variants.{Number}
 use Rattle.game.specs.declared.MaybeSide.{MaybeSide}
 use Rattle.game.specs.declared.MaybeSide.the-variants.{NoSide, Of}
 use Rattle.game.specs.declared.Penalty.{Penalty}
 use Rattle.game.specs.declared.Penalty.the-variants.{NoPenalty}
 use Rattle.game.specs.declared.Player.{Player}
 use Rattle.game.specs.declared.SeenPose.{SeenPose}
-use Rattle.game.specs.declared.SeenPose.the-variants.{Absent}
-use Rattle.game.specs.declared.SetPlay.the-variants.{NoSetPlay, KickOff, ThrowIn}
+use Rattle.game.specs.declared.SeenPose.the-variants.{Absent, Present}
+use Rattle.game.specs.declared.SetPlay.the-variants.{NoSetPlay, KickOff, DirectFreeKick, ThrowIn}
 use Rattle.game.specs.declared.Side.the-variants.{Home}
 use Rattle.game.specs.declared.Situation.{Situation}
 use Rattle.game.specs.declared.State.{State}
 use Rattle.game.specs.declared.State.the-variants.{Set, Playing}
 use Rattle.game.specs.declared.Team.{Team}
-use Rattle.game.specs.declared.Wish.the-variants.{Nothing, BallAtRestart, ForPenalty}
-use Rattle.cases.specs.Field.{_over_, gameIn, playerWith, seenAt, at, absent, team, situation}
+use Rattle.game.specs.declared.Wish.the-variants.{Nothing, BallAtRestart, ForPenalty, Goalkeeper}
+use Rattle.cases.specs.Field.{_over_, fieldWith, gameIn, playerWith, seenAt, at, absent, team, situationOn, situation}
 
 -- ---- case A
 -- Home: 2 at (6.5, 0), 3 at (6.5, 1), 4 as given, 5 at (6.75, 0.5), and those from 6 on; 2, 3 and 4 were inside
@@ -77,3 +80,19 @@ alone x = situation (gameIn Playing NoSetPlay NoSide) (team (absent ∷ at x (ne
 -- KickOff, Home kicks, Home 2 of radius 0.25 at (0, 0.25)
 abbrev pub kickOffIn : State → Situation
 kickOffIn state = situation (gameIn state KickOff (Of Home)) (team (absent ∷ at zero32 (1 over 4) ∷ [])) (ballAt zero32 zero32) NoSide Nothing
+
+-- ---- zeros of both signs in a place
+-- nobody there, Home's direct free kick with the ball at (x, y) and a ball of this radius, and the ball's place at the restart wished for
+abbrev pub freeKick : Float → Float → Float → Situation
+freeKick radius x y = situationOn (fieldWith radius) (gameIn Playing DirectFreeKick (Of Home)) (team []) (ballAt x y) NoSide BallAtRestart
+
+-- Home 1 alone, its goalkeeper, radius 0.25, at (6, 0.5) with this heading, and the goalkeeper's place wished for
+abbrev pub keeperHeading : Float → Situation
+keeperHeading theta =
+    situation (gameIn Playing NoSetPlay NoSide)
+    (record { players = fronted (playerWith (Present (record { x = 6 over 1; y = 1 over 2; theta = theta; radius = 1 over 4 })) NoPenalty false ∷ []) (replicate 20 absent); goalkeeper = Number 1 })
+    (ballAt zero32 zero32) NoSide (Goalkeeper Home)
+
+-- -2^-149: of the values below zero the nearest to it
+abbrev pub least : Float
+least = ofBits binary32 2147483649

@@ -32,9 +32,9 @@ infix 8 _over_
 abbrev pub _over_ : ℕ → ℕ → Float
 n over d = div binary32 (ofCount n) (ofCount d)
 
--- 14, 9, goal 2.5 wide and 1.75 high, goal area 1 by 4, penalty area 3 by 6, mark 2, circle 1.5, border 1, mark radius and line width 1/16, ball radius 1/8
-abbrev pub fieldA : FieldDimensions
-fieldA =
+-- 14, 9, goal 2.5 wide and 1.75 high, goal area 1 by 4, penalty area 3 by 6, mark 2, circle 1.5, border 1, mark radius and line width 1/16, and this ball radius
+abbrev pub fieldWith : Float → FieldDimensions
+fieldWith radius =
     record {
       length = 14 over 1;
       width = 9 over 1;
@@ -49,8 +49,12 @@ fieldA =
       «border_strip_width» = 1 over 1;
       «mark_radius» = 1 over 16;
       «line_width» = 1 over 16;
-      «ball_radius» = 1 over 8;
+      «ball_radius» = radius;
     }
+
+-- with ball radius 1/8
+abbrev pub fieldA : FieldDimensions
+fieldA = fieldWith (1 over 8)
 
 -- FirstHalf, not stopped, HomeDefendsLeftGoal
 abbrev pub gameIn : State → SetPlay → MaybeSide → Game
@@ -77,10 +81,10 @@ abbrev pub team : List Player → Team
 team l = record { players = fronted l (replicate 20 absent); goalkeeper = NoNumber }
 
 -- Away absent, distance 1, no restart, without which the two flags after it make no difference: document 01 leaves them open, and they are false
-abbrev pub situation : Game → Team → Ball → MaybeSide → Wish → Situation
-situation g home ball contact wish =
+abbrev pub situationOn : FieldDimensions → Game → Team → Ball → MaybeSide → Wish → Situation
+situationOn f g home ball contact wish =
     record {
-      field = fieldA;
+      field = f;
       «penalty_placement_distance» = 1 over 1;
       game = g;
       home = home;
@@ -92,3 +96,7 @@ situation g home ball contact wish =
       «ball_rested» = false;
       wish = wish;
     }
+
+-- on the field of A
+abbrev pub situation : Game → Team → Ball → MaybeSide → Wish → Situation
+situation = situationOn fieldA

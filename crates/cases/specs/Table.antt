@@ -1,5 +1,5 @@
--- The table of document 01's cases marked with *, in the document's order, on the field of its case A. Above the claims of a case stands its line of the document.
--- Each claim is of the answer to a situation, or of the leaf or entry that the line names. Definitions only.
+-- The table of document 01's cases marked with *, in the document's order, on the field of its case A, and after them the cases of document 02's requests. Above the claims of a case
+-- stands its line of the document, or what is asked. Each claim is of the answer to a situation, or of the leaf or entry that the line names. Definitions only.
 use mathlib.Core.Path.{_≡_}
 use mathlib.Core.List.{[], _∷_, _++_}
 use Prim.Native.Nat.{_^_}
@@ -21,8 +21,8 @@ use Rattle.sheet.specs.Sheet.{textOf}
 use Rattle.sheet.specs.declared.text.SheetAnswer.the-variants.{Refused, Written}
 use Rattle.call.specs.Call.{sheetAnswer, sheetAfter}
 use Rattle.cases.specs.Field.{_over_}
-use Rattle.cases.specs.CaseA.{ballAt, withBall, caseA, caseASet, fourAbsent, untouched, throwIn, alone, kickOffIn}
-use Rattle.cases.specs.Answers.{only, only2, answered, ownGoalAreas, sheetA}
+use Rattle.cases.specs.CaseA.{ballAt, withBall, caseA, caseASet, fourAbsent, untouched, throwIn, alone, kickOffIn, freeKick, keeperHeading, least}
+use Rattle.cases.specs.Answers.{only, only2, answered, ownGoalAreas, linesFor, onlyPlace, sheetA}
 
 -- every case, each with its claims
 pub record Table : Type 0 where
@@ -65,3 +65,18 @@ pub record Table : Type 0 where
   -- * KickOff, Home kicks, Home 2 of radius 0.25 at (0, 0.25): Set Illegal, Playing IllegalUnlessKicker.
   pub kick-off-in-set : answerOf (kickOffIn Set) [] [] .decision .home .verdicts ≡ only2 Illegal
   pub kick-off-in-playing : answerOf (kickOffIn Playing) [] [] .decision .home .verdicts ≡ only2 IllegalUnlessKicker
+  -- Document 02, request 2. A direct free kick, the ball at (+0, +0): 0 and 0 on the sheet; 1040187392 is the pattern of the radius, 0.125.
+  pub zeros-on-sheet : linesFor (freeKick (1 over 8) zero32 zero32) ≡ onlyPlace 2 0 0 0 1040187392
+  -- The ball at (-0, -0) with the ends exchanged: 0 and 0 too, and the decision still has -0.
+  pub zeros-turned-on-sheet : linesFor (turned (freeKick (1 over 8) zero32 zero32)) ≡ onlyPlace 2 0 0 0 1040187392
+  pub zeros-decided : answerOf (turned (freeKick (1 over 8) zero32 zero32)) [] [] .decision .place ≡ BallAt (neg zero32) (neg zero32) (1 over 8)
+  -- A ball radius of -0: 0 on the line of kind 9, and -0 in the decision.
+  pub radius-on-sheet : linesFor (freeKick (neg zero32) zero32 zero32) ≡ onlyPlace 2 0 0 0 0
+  pub radius-decided : answerOf (freeKick (neg zero32) zero32 zero32) [] [] .decision .place ≡ BallAt zero32 zero32 (neg zero32)
+  -- A goalkeeper's heading of -0 is 0; 1088356352 and 1056964608 are the patterns of its place, 6.96875 and 0.5.
+  pub heading-on-sheet : linesFor (keeperHeading (neg zero32)) ≡ onlyPlace 0 1 1088356352 1056964608 0
+  pub heading-decided : answerOf (keeperHeading (neg zero32)) [] [] .decision .place ≡ PlayerAt Home 1 (223 over 32) (1 over 2) (neg zero32)
+  -- -2^-149, the value nearest to zero, stays 2147483649 on each of the three lines.
+  pub least-x : linesFor (freeKick (1 over 8) least zero32) ≡ onlyPlace 2 0 2147483649 0 1040187392
+  pub least-y : linesFor (freeKick (1 over 8) zero32 least) ≡ onlyPlace 2 0 0 2147483649 1040187392
+  pub least-heading : linesFor (keeperHeading least) ≡ onlyPlace 0 1 1088356352 1056964608 2147483649

@@ -4,6 +4,7 @@ ghost use mathlib.Core.Path.{_≡_};
 ghost use mathlib.Core.Bool.{false};
 ghost use Prim.Native.Nat.{_<_};
 ghost use lib.ListN.{getD};
+ghost use Rattle.game.specs.Codes.{sideCode};
 ghost use Rattle.game.specs.Game as Spec;
 ghost use Rattle.game.specs.Players as Players;
 
@@ -295,6 +296,16 @@ pub fn opponent(side: Side) -> Side
     match side {
         Side::Home => Side::Away,
         Side::Away => Side::Home,
+    }
+}
+
+// Document 01's number of a side.
+pub fn side_code(side: Side) -> u32
+    ensures { λ r. ⌜ r ≡ sideCode side ⌝ }
+{
+    match side {
+        Side::Home => 0,
+        Side::Away => 1,
     }
 }
 

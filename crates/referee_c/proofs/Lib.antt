@@ -1,2 +1,3 @@
 mod Signed
 mod EntryLaws
+mod PlaceLaws

@@ -1,13 +1,19 @@
 -- What the C entries answer: a refusal n as -n, and -100 for words that are no situation. Definitions only.
 -- They are of IEEE 754's default float mode, the only one that the language has, so that -101, the answer in another one, is not here.
 use mathlib.Core.Bool.{Bool, _&&_, cond}
-use mathlib.Core.List.{List}
+use mathlib.Core.List.{List, [], _∷_}
 use Prim.Native.Nat.{ℕ, _+_}
 use lib.Dec.{eqb, leb}
-use lib.Ieee.{Float}
+use lib.Ieee.{Float, binary32, toBits}
 use lib.IntN.{ℤ, pos, negℤ}
 use lib.ListN.{length}
-use Rattle.candidates.specs.Candidates.{refusalOf, answerOf}
+use Rattle.candidates.specs.Candidates.{refusalOf, answerOf as candidatesOf}
+use Rattle.lists.specs.Put.{fronted}
+use Rattle.game.specs.Codes.{sideCode}
+use Rattle.game.specs.declared.Placement.{Placement}
+use Rattle.game.specs.declared.Placement.the-variants.{NoPlace, BallAt, PlayerAt}
+use Rattle.decision.specs.Decision.{answerOf}
+use Rattle.decision.specs.declared.call.Answer.{Answer}
 use Rattle.columns.specs.Layout.{wordCount}
 use Rattle.columns.specs.Columns.{wordsWithin, isSituation}
 use Rattle.words.specs.Words.{sideOf, situationOf}
@@ -50,8 +56,41 @@ coachNumber ws xs ys side n lent = cond (isCoachAsked ws side) (answerNumber (se
 unfoldable pub coachBytes : List ℕ → List Float → List Float → ℕ → ℕ → List ℕ → List ℕ
 coachBytes ws xs ys side n text = cond (isCoachAsked ws side) (sentenceAfter (situationOf ws) xs ys (sideOf side) n text) text
 
+-- ---- the place as it was decided
+-- how many places there are, 1 or 0
+abbrev pub placeCount : Placement → ℕ
+placeCount NoPlace = 0
+placeCount (BallAt x y z) = 1
+placeCount (PlayerAt side number x y theta) = 1
+
+-- side, number and the patterns of three floats, the sign of a zero kept
+abbrev pub wordsWith : ℕ → ℕ → Float → Float → Float → List ℕ
+wordsWith side number x y z = side ∷ number ∷ toBits binary32 x ∷ toBits binary32 y ∷ toBits binary32 z ∷ []
+
+-- the words of a place, none without one; the ball has the side 2 and the number 0
+abbrev pub placeWords : Placement → List ℕ
+placeWords NoPlace = []
+placeWords (BallAt x y z) = wordsWith 2 0 x y z
+placeWords (PlayerAt side number x y theta) = wordsWith (sideCode side) number x y theta
+
+-- of the answer to a situation
+abbrev pub placedNumber : Answer → ℤ
+placedNumber a = cond (eqb (a .refusal) 0) (pos (placeCount (a .decision .place))) (minus (a .refusal))
+
+-- the words are a situation, and five are lent
+abbrev pub isPlaceAsked : List ℕ → ℕ → Bool
+isPlaceAsked ws lent = isSituation ws && leb 5 lent
+
+-- of words, the earlier places and the number of words lent
+unfoldable pub placeNumber : List ℕ → List Float → List Float → ℕ → ℤ
+placeNumber ws xs ys lent = cond (isPlaceAsked ws lent) (placedNumber (answerOf (situationOf ws) xs ys)) (minus 100)
+
+-- the lent words after the call: beside a refusal there is no place
+unfoldable pub placeAfter : List ℕ → List Float → List Float → List ℕ → List ℕ
+placeAfter ws xs ys place = cond (isPlaceAsked ws (length place)) (fronted (placeWords (answerOf (situationOf ws) xs ys .decision .place)) place) place
+
 -- ---- the candidates
 -- how many candidates there are; none means a refusal
 unfoldable pub candidatesNumber : Float → Float → Float → Float → ℕ → ℤ
 candidatesNumber start min max step lent =
-    cond (eqb (length (answerOf start min max step lent)) 0) (minus (refusalOf start min max step lent)) (pos (length (answerOf start min max step lent)))
+    cond (eqb (length (candidatesOf start min max step lent)) 0) (minus (refusalOf start min max step lent)) (pos (length (candidatesOf start min max step lent)))

@@ -4,7 +4,8 @@
 // floats and answers an i64 first asks for the mode, and answers -101 in a wrong one. The seed is a slice's length, and it is asked for before any test of that length:
 // past such a test the compiler knows it and works the answer out. In the language there is only the default, so that no contract has -101 in it.
 ghost use mathlib.Core.Path.{_≡_};
-ghost use Prim.Native.Nat.{_<_};
+ghost use Prim.Native.Nat.{_≤_, _<_};
+ghost use lib.IntN.{pos};
 ghost use lib.ListN.{length};
 ghost use Rattle.lists.specs.Put.{fronted};
 ghost use Rattle.floats.specs.Leaves.{remEuclid};
@@ -14,6 +15,7 @@ ghost use Rattle.candidates.specs.Candidates.{answerOf};
 ghost use Rattle.sheet.specs.Sheet.{bytesIn};
 ghost use Rattle.referee_c.specs.Entries as Spec;
 use columns::layout::WORDS;
+use game::Placement;
 use sheet::SheetAnswer;
 
 // A refusal as its number below 0.
@@ -92,6 +94,72 @@ pub extern "C" fn referee_coach<'a>(
         let team = words::side_of(side);
         let answer = call::write_sentence(s, xs, ys, team, number, text);
         return answer_number(answer);
+    }
+    minus(100)
+}
+
+// Writes the numbers of a place and the patterns of its floats into the first five of the lent words.
+fn put_place(place: &mut [u32], side: u32, number: u32, x: f32, y: f32, z: f32)
+    requires { ⌜ 5 ≤ length (now place) ⌝ }
+    ensures { λ _. ⌜ now (place .exit) ≡ fronted (Spec.wordsWith side number x y z) (now (place .entry)) ⌝ }
+{
+    place[0] = side;
+    place[1] = number;
+    place[2] = floats::bits(x);
+    place[3] = floats::bits(y);
+    place[4] = floats::bits(z);
+}
+
+// Writes a place as it was decided, the sign of a zero kept. Answers how many places there are, 1 or 0.
+fn write_place(p: Placement, place: &mut [u32]) -> i64
+    requires { ⌜ 5 ≤ length (now place) ⌝ }
+    ensures { λ r. ⌜ r ≡ pos (Spec.placeCount p) ⌝ }
+    ensures { λ _. ⌜ now (place .exit) ≡ fronted (Spec.placeWords p) (now (place .entry)) ⌝ }
+{
+    match p {
+        Placement::NoPlace => 0,
+        Placement::BallAt(x, y, z) => {
+            put_place(place, 2, 0, x, y, z);
+            1
+        }
+        Placement::PlayerAt {
+            side,
+            number,
+            x,
+            y,
+            theta,
+        } => {
+            let code = game::side_code(side);
+            put_place(place, code, number as u32, x, y, theta);
+            1
+        }
+    }
+}
+
+// Decides on the situation that the words are and writes the place wished for, as it was decided, into the first five of the lent words. Answers 1, 0 where there is no place, or a refusal.
+#[no_mangle]
+pub extern "C" fn referee_place<'a>(
+    words: &[u32],
+    xs: &'a [f32],
+    ys: &'a [f32],
+    place: &mut [u32],
+) -> i64
+    ensures { λ r. ⌜ r ≡ Spec.placeNumber (now (words .entry)) (now (xs .entry)) (now (ys .entry)) (length (now (place .entry))) ⌝ }
+    ensures { λ _. ⌜ now (place .exit) ≡ Spec.placeAfter (now (words .entry)) (now (xs .entry)) (now (ys .entry)) (now (place .entry)) ⌝ }
+{
+    if !mode::is_ieee_mode(words.len()) {
+        return minus(101);
+    }
+    if columns::is_situation(words) & (5 <= place.len()) {
+        let s = words::situation_of(words);
+        let answer = decision::decide(s, xs, ys);
+        let refusal = answer.refusal;
+        if refusal != 0 {
+            return minus(refusal);
+        }
+        let d = answer.decision;
+        let p = d.place;
+        return write_place(p, place);
     }
     minus(100)
 }

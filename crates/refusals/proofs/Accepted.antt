@@ -40,6 +40,11 @@ accepted s xs ys e =
 pub record Ranges (f : FieldDimensions) : Type 0 where
   pub length-range : within four (f .length) sixtyFour ≡ true
   pub width-range : within four (f .width) sixtyFour ≡ true
+  pub goal-range : isSize (f .«goal_width») ≡ true
+  pub goal-area-length-range : isSize (f .«goal_area_length») ≡ true
+  pub goal-area-width-range : isSize (f .«goal_area_width») ≡ true
+  pub penalty-area-length-range : isSize (f .«penalty_area_length») ≡ true
+  pub penalty-area-width-range : isSize (f .«penalty_area_width») ≡ true
   pub mark-range : isSize (f .«penalty_mark_distance») ≡ true
   pub border-range : isSize (f .«border_strip_width») ≡ true
   pub line-range : within zero32 (f .«line_width») one ≡ true
@@ -61,7 +66,19 @@ field-ranges f e =
     let m = both-true _ _ (l .0) in
     let n = both-true _ _ (m .0) in
     let o = both-true _ _ (n .0) in
-    record { length-range = o .0; width-range = o .1; mark-range = h .1; border-range = d .1; line-range = b .1; radius-range = a .1 }
+    record {
+      length-range = o .0;
+      width-range = o .1;
+      goal-range = n .1;
+      goal-area-length-range = l .1;
+      goal-area-width-range = k .1;
+      penalty-area-length-range = j .1;
+      penalty-area-width-range = i .1;
+      mark-range = h .1;
+      border-range = d .1;
+      line-range = b .1;
+      radius-range = a .1;
+    }
 
 -- ---- a player by its number, which names one of the twenty, whose pose was looked at
 pub numbered-fits : (t : Team) → teamFits t ≡ true → (n : ℕ) → isPlayerNumber n ≡ true → seenFits (playerNumbered t n .pose) ≡ true

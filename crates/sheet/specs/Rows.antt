@@ -1,12 +1,14 @@
 -- The lines that a decision gives, in document 01's order: kind by kind, and inside a kind in the order of the players, but for the excess, which has the list's
 -- order. Definitions only.
+use mathlib.Core.Bool.{cond}
 use mathlib.Core.List.{List, [], _∷_, _++_}
 use Prim.Native.Nat.{ℕ, suc, _+_}
 use lib.Dec.{ltb}
-use lib.Ieee.{Float, binary32, toBits}
+use lib.Ieee.{Float, binary32, eq, toBits}
 use lib.ListN.{getD, length, take}
 use Rattle.lists.specs.Gather.{flatTo, onlyIf}
 use Rattle.lists.specs.Table.{table}
+use Rattle.floats.specs.Arithmetic.{zero32}
 use Rattle.game.specs.declared.PlayerList.{PlayerList}
 use Rattle.game.specs.declared.Side.{Side}
 use Rattle.game.specs.declared.Side.the-variants.{Home, Away}
@@ -63,18 +65,23 @@ kickerRows (Kicker side n) = row 3 (sideCode side) n 0 ∷ []
 unfoldable pub ballRows : BallJudgment → List Row
 ballRows j = onlyIf (ltb 0 (judgmentCode j)) (row 6 (judgmentSide j) (judgmentCode j) 0)
 
--- ---- 7, 8, 9: the three numbers of a place, by their patterns
+-- ---- 7, 8, 9: the three numbers of a place
+-- a number of a place on the sheet: a zero of either sign as 0, any other by its pattern
+unfoldable pub placedValue : Float → ℕ
+placedValue x = cond (eq x zero32) 0 (toBits binary32 x)
+
 -- a line for each value, of this kind and those that follow it
 abbrev pub valueRows : ℕ → ℕ → ℕ → List Float → List Row
 valueRows kind side number [] = []
-valueRows kind side number (x ∷ xs) = row kind side number (toBits binary32 x) ∷ valueRows (suc kind) side number xs
+valueRows kind side number (x ∷ xs) = row kind side number (placedValue x) ∷ valueRows (suc kind) side number xs
 
 unfoldable pub placeRows : Placement → List Row
 placeRows p = valueRows 7 (placementSide p) (placementNumber p) (placementValues p)
 
 -- ---- all of them, Home before Away inside a kind
-unfoldable pub rowsOf : Decision → List Row
-rowsOf d =
+-- but those of the place
+abbrev pub judgedRows : Decision → List Row
+judgedRows d =
     verdictRows Home (d .home .verdicts)
     ++ verdictRows Away (d .away .verdicts)
     ++ listRows 2 Home fromOne (d .home .excess)
@@ -85,7 +92,10 @@ rowsOf d =
     ++ listRows 5 Home none (d .home .moved)
     ++ listRows 5 Away none (d .away .moved)
     ++ ballRows (d .ball)
-    ++ placeRows (d .place)
+
+-- and those of the place
+unfoldable pub rowsOf : Decision → List Row
+rowsOf d = judgedRows d ++ placeRows (d .place)
 
 -- 0: the number of lines that follow
 abbrev pub header : ℕ → Row

@@ -1,11 +1,11 @@
 // Lines of one kind and side, and those of a place, gathered before anything is written, so that their number is known.
 ghost use mathlib.Core.Path.{_≡_};
-ghost use mathlib.Core.List.{_++_};
+ghost use mathlib.Core.List.{[], _∷_, _++_};
 ghost use Prim.Native.Nat.{_+_, _≤_, _<_};
 ghost use lib.ListN.{length};
 ghost use Rattle.lists.specs.Gather.{onlyIf};
 ghost use Rattle.lists.specs.Put.{countIf};
-ghost use Rattle.game.specs.Codes.{positioningCode, sideCode, judgmentCode, judgmentSide};
+ghost use Rattle.game.specs.Codes.{positioningCode, judgmentCode, judgmentSide};
 ghost use Rattle.sheet.specs.Rows as Spec;
 ghost use Rattle.sheet.specs.Blocks.{Holds, HoldsList, Few, allRows, placeLineRows};
 use game::BallJudgment;
@@ -61,15 +61,6 @@ const RANKS: [u8; 20] = [
     20,
 ];
 
-fn side_code(side: Side) -> u32
-    ensures { λ r. ⌜ r ≡ sideCode side ⌝ }
-{
-    match side {
-        Side::Home => 0,
-        Side::Away => 1,
-    }
-}
-
 fn positioning_code(verdict: Positioning) -> u8
     ensures { λ r. ⌜ r ≡ positioningCode verdict ⌝ }
 {
@@ -107,7 +98,7 @@ fn block_if(wanted: bool, kind: u32, side: u32, number: u8) -> Block
 fn verdict_block(side: Side, verdicts: [PlayerVerdict; 20]) -> Block
     ensures { λ r. ⌜ Holds r (Spec.verdictRows side verdicts) ⌝ }
 {
-    let code = side_code(side);
+    let code = game::side_code(side);
     let mut numbers = [0u8; 20];
     let mut values = [0u8; 20];
     let mut n: usize = 0;
@@ -134,7 +125,7 @@ fn verdict_block(side: Side, verdicts: [PlayerVerdict; 20]) -> Block
 fn list_block(kind: u32, side: Side, list: PlayerList, values: [u8; 20]) -> Block
     ensures { λ r. ⌜ HoldsList r kind side values list ⌝ }
 {
-    let code = side_code(side);
+    let code = game::side_code(side);
     let numbers = list.numbers;
     let count = if list.count < 20 { list.count } else { 20 };
     Block {
@@ -153,7 +144,7 @@ fn kicker_block(kicker: KickingPlayer) -> Block
     match kicker {
         KickingPlayer::NoKicker => block_if(false, 3, 0, 0),
         KickingPlayer::Kicker(side, number) => {
-            let code = side_code(side);
+            let code = game::side_code(side);
             block_if(true, 3, code, number)
         }
     }
@@ -177,10 +168,10 @@ fn judgment_side(judgment: BallJudgment) -> u32
 {
     match judgment {
         BallJudgment::NoJudgment => 2,
-        BallJudgment::Goal(side) => side_code(side),
-        BallJudgment::GoalKick(side) => side_code(side),
-        BallJudgment::CornerKick(side) => side_code(side),
-        BallJudgment::ThrowIn(side) => side_code(side),
+        BallJudgment::Goal(side) => game::side_code(side),
+        BallJudgment::GoalKick(side) => game::side_code(side),
+        BallJudgment::CornerKick(side) => game::side_code(side),
+        BallJudgment::ThrowIn(side) => game::side_code(side),
         BallJudgment::EndOfPenaltyShot => 2,
     }
 }
@@ -223,6 +214,33 @@ pub(crate) fn blocks_of(d: Decision) -> [Block; 10]
     ]
 }
 
+// A number of a place on the sheet: a zero of either sign as 0, any other by its pattern.
+fn placed_value(x: f32) -> u32
+    ensures { λ r. ⌜ r ≡ Spec.placedValue x ⌝ }
+{
+    if x == 0.0 {
+        return 0;
+    }
+    floats::bits(x)
+}
+
+// The three lines of a place with this side and number.
+fn three_lines(side: u32, number: u32, x: f32, y: f32, z: f32) -> PlaceLines
+    ensures { λ r. ⌜ (r .lines ≡ 3) × (placeLineRows r ≡ Spec.valueRows 7 side number (x ∷ y ∷ z ∷ [])) ⌝ }
+{
+    let x = placed_value(x);
+    let y = placed_value(y);
+    let z = placed_value(z);
+    PlaceLines {
+        lines: 3,
+        side,
+        number,
+        x,
+        y,
+        z,
+    }
+}
+
 // The lines of a place.
 pub(crate) fn lines_of_place(place: Placement) -> PlaceLines
     ensures { λ r. ⌜ (r .lines ≡ length (Spec.placeRows place)) × (placeLineRows r ≡ Spec.placeRows place) ⌝ }
@@ -236,19 +254,7 @@ pub(crate) fn lines_of_place(place: Placement) -> PlaceLines
             y: 0,
             z: 0,
         },
-        Placement::BallAt(x, y, z) => {
-            let x = floats::bits(x);
-            let y = floats::bits(y);
-            let z = floats::bits(z);
-            PlaceLines {
-                lines: 3,
-                side: 2,
-                number: 0,
-                x,
-                y,
-                z,
-            }
-        }
+        Placement::BallAt(x, y, z) => three_lines(2, 0, x, y, z),
         Placement::PlayerAt {
             side,
             number,
@@ -256,18 +262,8 @@ pub(crate) fn lines_of_place(place: Placement) -> PlaceLines
             y,
             theta,
         } => {
-            let side = side_code(side);
-            let x = floats::bits(x);
-            let y = floats::bits(y);
-            let z = floats::bits(theta);
-            PlaceLines {
-                lines: 3,
-                side,
-                number: number as u32,
-                x,
-                y,
-                z,
-            }
+            let code = game::side_code(side);
+            three_lines(code, number as u32, x, y, theta)
         }
     }
 }

@@ -1,10 +1,10 @@
-//! The comparison of `referee_sheet` with the two builds of the original.
+//! The comparison of `referee_sheet` and `referee_place` with the two builds of the original.
 
 use crate::decision::Decision;
 use crate::generate::{self, Class, CLASSES};
 use crate::random::Random;
 use crate::situation::{values, Situation, WORDS};
-use crate::{cases, entries, exact_build, layout, library, mixed_build, refusals, slip_build, slips, std_build, turn};
+use crate::{cases, entries, exact_build, layout, library, mixed_build, place, refusals, slip_build, slips, std_build, turn};
 use std::collections::{BTreeMap, BTreeSet};
 
 /// What the oracle answers: a refusal, or a decision.
@@ -81,13 +81,17 @@ pub struct Tally {
     counts: BTreeMap<String, u64>,
     pub differences: u64,
     pub counterexamples: u64,
+    /// To the half turn of the sheets.
+    sheet_counterexamples: u64,
+    /// What failed first.
+    first: Option<&'static str>,
     std_shown: BTreeMap<String, Situation>,
     combinations: BTreeSet<[u8; 6]>,
     goals: BTreeSet<[u8; 9]>,
 }
 
 impl Tally {
-    fn add(&mut self, what: impl Into<String>) {
+    pub fn add(&mut self, what: impl Into<String>) {
         *self.counts.entry(what.into()).or_default() += 1;
     }
 
@@ -103,10 +107,16 @@ impl Tally {
         println!("{:>12}  combinations of restart, invalid goals, ends and ball judgment", self.goals.len());
     }
 
-    fn fail(&mut self, kind: &str, s: &Situation, answer: &Answer) {
+    /// Counts a difference in what an entry gives. Says whether it is to be printed.
+    pub fn differs(&mut self, entry: &'static str, kind: &str) -> bool {
         self.differences += 1;
+        self.first.get_or_insert(entry);
         self.add(format!("DIFFERENCE in {kind}"));
-        if self.differences <= 3 && !slips::any() {
+        self.differences <= 3 && !slips::any()
+    }
+
+    fn fail(&mut self, kind: &str, s: &Situation, answer: &Answer) {
+        if self.differs("the sheet", kind) {
             println!("DIFFERENCE in {kind}");
             let shrunk = shrink(s, |t| entry(&exact(t)) != port(t));
             if entry(&exact(&shrunk)) != port(&shrunk) {
@@ -244,6 +254,9 @@ pub fn check(random: &mut Random, s: &Situation, class: &str, tally: &mut Tally)
         tally.fail("a sheet with room to spare", s, &answer);
         return;
     }
+    if !place::check(random, &words, s, &answer, tally) {
+        return;
+    }
     let calls = random.within(0, 3) == 0;
     if calls {
         let mut ways = vec![("a sheet without room", 0, if number < 0 { number } else { -7 })];
@@ -270,6 +283,7 @@ pub fn check(random: &mut Random, s: &Situation, class: &str, tally: &mut Tally)
         if !call(&bad, s, 8192, -100, "") {
             tally.fail(&format!("a bad word {i}, {}", bad[i]), s, &answer);
         }
+        place::check_malformed(random, "a word outside its column", &bad, s, &answer, tally);
         let mut long = words.to_vec();
         long.resize(WORDS + 1 + random.within(0, 9) as usize, 0);
         let short = random.within(0, WORDS as i64 - 1) as usize;
@@ -277,6 +291,9 @@ pub fn check(random: &mut Random, s: &Situation, class: &str, tally: &mut Tally)
         if !call(&long, s, 8192, -100, "") || !call(&words[..short], s, 8192, -100, "") {
             tally.fail("a wrong number of words", s, &answer);
         }
+        place::check_malformed(random, "too many words", &long, s, &answer, tally);
+        place::check_malformed(random, "too few words", &words[..short], s, &answer, tally);
+        place::check_few(&words, s, &answer, tally);
     }
     let decision = match answer {
         Answer::Refused(n) => {
@@ -303,14 +320,33 @@ pub fn check(random: &mut Random, s: &Situation, class: &str, tally: &mut Tally)
         tally.std_shown.entry(items.join(" and ")).or_insert_with(|| s.clone());
     }
 
-    let turned = decide(&turn::turned(s));
-    let equal = turn::same(s.wish, &decision, &turned);
+    check_turned(s, &decision, &text, tally);
+}
+
+/// The half turn: of the original's decisions, and of the port's sheets. The first sheet is the text, which the port has written.
+fn check_turned(s: &Situation, decision: &Decision, text: &str, tally: &mut Tally) {
+    let turned = turn::turned(s);
+    let equal = turn::same(s.wish, decision, &decide(&turned));
     let excepted = turn::excepted(s);
     tally.add(format!("turned: {}, {}", if excepted { "excepted" } else { "not excepted" }, if equal { "equal" } else { "unequal" }));
     if equal == excepted {
         tally.counterexamples += 1;
+        tally.first.get_or_insert("the half turn");
         if tally.counterexamples <= 2 && !slips::any() {
             println!("COUNTEREXAMPLE to the half turn:\n{}", as_numbers(s));
+        }
+    }
+    if excepted {
+        return;
+    }
+    let (number, turned_text) = port(&turned);
+    let equal = number > 0 && turn::same_sheets(s.wish, text, &turned_text);
+    tally.add(format!("turned sheets: {}", if equal { "equal" } else { "unequal" }));
+    if !equal {
+        tally.sheet_counterexamples += 1;
+        tally.first.get_or_insert("the half turn of the sheets");
+        if tally.sheet_counterexamples <= 2 && !slips::any() {
+            println!("COUNTEREXAMPLE to the half turn of the sheets:\n{}\n{text}turned, {number}:\n{turned_text}", as_numbers(s));
         }
     }
 }
@@ -421,6 +457,17 @@ pub fn bisect(random: &mut Random, tally: &mut Tally) {
     }
 }
 
+/// The situations of a turn: one of the class that has its turn, and sometimes one more with zeros where a place comes from.
+fn drawn(random: &mut Random, turn: u64) -> Vec<(String, Situation)> {
+    let class = CLASSES[(turn % CLASSES.len() as u64) as usize];
+    let mut drawn = vec![(format!("{class:?}"), generate::situation(random, class))];
+    // Seven and the number of the classes have no factor in common, so that each class has zeros.
+    if turn % 7 == 0 {
+        drawn.push(("zeros".to_string(), generate::zeros(random, class)));
+    }
+    drawn
+}
+
 /// The main run.
 pub fn run(count: u64, seed: u64) -> bool {
     let mut random = Random::new(seed);
@@ -433,9 +480,9 @@ pub fn run(count: u64, seed: u64) -> bool {
         check(&mut random, &case.situation, "document 01", &mut tally);
     }
     for turn in 0..count {
-        let class = CLASSES[(turn % CLASSES.len() as u64) as usize];
-        let s = generate::situation(&mut random, class);
-        check(&mut random, &s, &format!("{class:?}"), &mut tally);
+        for (class, s) in drawn(&mut random, turn) {
+            check(&mut random, &s, &class, &mut tally);
+        }
         if turn % 16 == 0 {
             bisect(&mut random, &mut tally);
         }
@@ -452,7 +499,8 @@ pub fn run(count: u64, seed: u64) -> bool {
     }
     println!("differences from the exact build: {}", tally.differences);
     println!("counterexamples to the half turn: {}", tally.counterexamples);
-    tally.differences == 0 && tally.counterexamples == 0
+    println!("counterexamples to the half turn of the sheets: {}", tally.sheet_counterexamples);
+    tally.first.is_none()
 }
 
 /// Switches each slip on and looks for a situation at which the comparison then fails.
@@ -462,21 +510,18 @@ pub fn try_slips(most: u64, seed: u64) -> bool {
         slips::switch(Some(slip));
         let mut random = Random::new(seed);
         let mut tally = Tally::default();
-        let mut caught = None;
-        for turn in 0..most {
-            let class = CLASSES[(turn % CLASSES.len() as u64) as usize];
-            let s = generate::situation(&mut random, class);
-            check(&mut random, &s, "", &mut tally);
-            if tally.differences + tally.counterexamples > 0 {
-                caught = Some((turn + 1, class));
-                break;
-            }
-        }
+        let caught = (0..most).find_map(|turn| {
+            drawn(&mut random, turn).into_iter().find_map(|(class, s)| {
+                check(&mut random, &s, "", &mut tally);
+                tally.first.map(|how| (turn + 1, class, how))
+            })
+        });
         slips::switch(None);
         match caught {
-            Some((turn, class)) => {
-                let how = if tally.differences > 0 { "the sheet" } else { "the half turn" };
-                println!("caught at situation {turn:>6} ({class:?}) by {how}: {what}");
+            Some((turn, class, how)) => {
+                let wrong = slips::SEEN_BY_PLACE_ALONE.contains(&slip) && how != "the place";
+                println!("{}caught at turn {turn:>6} ({class}) by {how}: {what}", if wrong { "NOT BY THE PLACE: " } else { "" });
+                all &= !wrong;
             }
             None => {
                 println!("NOT CAUGHT: {what}");
@@ -490,13 +535,12 @@ pub fn try_slips(most: u64, seed: u64) -> bool {
 /// Compares until the first difference; says whether there was none. For edits of the oracle's text (mutants.py).
 pub fn until(count: u64, seed: u64) -> bool {
     let mut random = Random::new(seed);
-    let mut same = |turn: u64| {
-        let class = CLASSES[(turn % CLASSES.len() as u64) as usize];
-        let s = generate::situation(&mut random, class);
-        let (number, text) = entry(&exact(&s));
-        call(&s.to_words(None), &s, text.len() + 45, number, &text)
+    let same = |s: &Situation| {
+        let (words, answer) = (s.to_words(None), exact(s));
+        let (number, text) = entry(&answer);
+        call(&words, s, text.len() + 45, number, &text) && place::agrees(&words, s, &answer, 1)
     };
-    (0..count).all(|turn| same(turn)) && entries::candidates_until(count / 10, seed)
+    (0..count).all(|turn| drawn(&mut random, turn).iter().all(|(_, s)| same(s))) && entries::candidates_until(count / 10, seed)
 }
 
 /// The situation of a text that the program judge reads without a fault.
@@ -512,17 +556,21 @@ pub fn from_numbers(text: &str) -> Situation {
     Situation::from_words(&numbers[..WORDS], xs, ys).expect("words of a situation")
 }
 
-/// Reads a situation from standard input, as the program judge does, and prints the sheets of both builds and of the port.
+/// Reads a situation from standard input, as the program judge does, and prints the sheets of both builds and of the port, and the place as
+/// decided.
 pub fn judge() -> bool {
     let mut text = String::new();
     std::io::Read::read_to_string(&mut std::io::stdin(), &mut text).expect("standard input is text");
     let s = from_numbers(&text);
-    let (number, text) = entry(&exact(&s));
+    let answer = exact(&s);
+    let (number, text) = entry(&answer);
     println!("the exact build answers {number}:\n{text}");
     if refusals::refusal(&s).is_none() {
         println!("the std build:\n{}", std_build::oracle::decide(&s).sheet());
     }
     let (port_number, port_text) = port(&s);
     println!("the port answers {port_number}:\n{port_text}");
-    (number, text) == (port_number, port_text)
+    let (place, port_place) = (place::expected(&answer, place::WORDS), place::port(&s));
+    println!("the place as decided, by the exact build: {place:?}\nby the port: {port_place:?}");
+    (number, text) == (port_number, port_text) && place == port_place
 }

@@ -1,11 +1,45 @@
-//! The items of a decision, and document 01's sheet of them.
+//! The items of a decision, and the sheet of them: document 01's, with document 02's one zero for the numbers of a place.
 
 use crate::situation::{Pose, PLAYERS};
+use crate::slips::{self, on};
 
 #[derive(Clone, Copy, Debug)]
 pub enum Place {
     Ball([f32; 3]),
     Player { side: u8, number: u8, x: f32, y: f32, theta: f32 },
+}
+
+/// The patterns of -0 and of the number below it.
+pub const MINUS_ZERO: u32 = 1 << 31;
+const LEAST_BELOW: u32 = MINUS_ZERO + 1;
+
+const SIGNS_KEPT: [usize; 3] = [slips::SHEET_KEEPS_SIGN_OF_X, slips::SHEET_KEEPS_SIGN_OF_Y, slips::SHEET_KEEPS_SIGN_OF_THIRD];
+
+impl Place {
+    /// Side and number, of the ball 2 and 0, and the patterns of the three numbers as decided, a zero with its sign.
+    pub fn words(self) -> [u32; 5] {
+        let (side, number, values) = match self {
+            Place::Ball(position) => (2, 0, position),
+            Place::Player { side, number, x, y, theta } => (side, number, [x, y, theta]),
+        };
+        let [x, y, third] = values.map(f32::to_bits);
+        [side.into(), number.into(), x, y, third]
+    }
+
+    /// The rows of the sheet.
+    pub fn rows(self) -> [[u32; 4]; 3] {
+        let [side, number, values @ ..] = self.words();
+        std::array::from_fn(|i| [7 + i as u32, side, number, on_sheet(i, values[i])])
+    }
+}
+
+/// The i-th of a place's three numbers on the sheet: 0 for a zero of either sign, otherwise the pattern.
+fn on_sheet(i: usize, pattern: u32) -> u32 {
+    match pattern {
+        MINUS_ZERO if !on(SIGNS_KEPT[i]) => 0,
+        LEAST_BELOW if on(slips::LEAST_AS_ZERO) => 0,
+        _ => pattern,
+    }
 }
 
 #[derive(Clone, Debug)]
@@ -46,15 +80,7 @@ impl Decision {
         rows.extend(self.leaving.iter().map(|p| player(4, p)));
         rows.extend(self.moved.iter().map(|p| player(5, p)));
         rows.extend(self.ball.map(|(code, side)| [6, side.into(), code.into(), 0]));
-        if let Some(place) = self.place {
-            let (side, number, values) = match place {
-                Place::Ball(position) => (2, 0, position),
-                Place::Player { side, number, x, y, theta } => (side, number, [x, y, theta]),
-            };
-            for (kind, value) in (7..).zip(values) {
-                rows.push([kind, side.into(), number.into(), value.to_bits()]);
-            }
-        }
+        rows.extend(self.place.into_iter().flat_map(Place::rows));
         rows
     }
 
@@ -71,12 +97,7 @@ impl Decision {
     pub fn differing(&self, other: &Decision) -> Vec<&'static str> {
         let bits = |p: &Option<Pose>| p.map(|p| [p.x, p.y, p.theta, p.radius].map(f32::to_bits));
         let references = |d: &Decision| d.references.each_ref().map(|side| side.each_ref().map(bits));
-        let place = |d: &Decision| {
-            d.place.map(|p| match p {
-                Place::Ball(at) => (2, 0, at.map(f32::to_bits)),
-                Place::Player { side, number, x, y, theta } => (side, number, [x, y, theta].map(f32::to_bits)),
-            })
-        };
+        let place = |d: &Decision| d.place.map(Place::words);
         let same = [
             self.verdicts == other.verdicts,
             self.excess == other.excess,

@@ -85,6 +85,55 @@ pub fn judged(random: &mut Random, class: Class) -> Situation {
     s
 }
 
+/// A situation of the class with zeros and the numbers next to them where the numbers of a place come from: the ball, its radius and a
+/// goalkeeper, which are placed as they are, a penalty mark in the centre and a penalty area up to the halfway line. It draws from `situation`,
+/// whose situations stay those of their seed, since the list of the program replay is made of them.
+pub fn zeros(random: &mut Random, class: Class) -> Situation {
+    const NEXT: f32 = f32::from_bits(1);
+    let mut s = situation(random, class);
+    let zero = |random: &mut Random| random.pick(&[0.0, -0.0, -0.0, NEXT, -NEXT]);
+    let side = byte(random, 2);
+    if random.coin() {
+        s.sizes[BALL_RADIUS] = random.pick(&[0.0, -0.0, -0.0, NEXT]);
+    }
+    match random.within(0, 5) {
+        0 | 1 => {
+            s.wish = Wish::BallAtRestart;
+            s.set_play = random.pick(&[2, INDIRECT_FREE_KICK, 5]);
+            for i in 0..2 {
+                if !one_in(random, 4) {
+                    s.ball[i] = zero(random);
+                }
+            }
+        }
+        2 => {
+            s.sizes[PENALTY_AREA_LENGTH] = s.sizes[LENGTH] * 0.5 + s.sizes[LINE_WIDTH] * 0.5;
+            free_kick(random, &mut s);
+            if random.coin() {
+                s.wish = Wish::PenaltyShot(side, 1);
+                aim(random, &mut s);
+            }
+        }
+        3 => {
+            s.wish = Wish::BallInSet;
+            s.set_play = random.pick(&[KICK_OFF, PENALTY_KICK]);
+            s.sizes[PENALTY_MARK_DISTANCE] = s.sizes[LENGTH] * 0.5;
+        }
+        _ => {
+            s.wish = Wish::Goalkeeper(side);
+            aim(random, &mut s);
+            let number = s.goalkeepers[usize::from(side)].filter(|number| (1..=20).contains(number)).unwrap_or(1);
+            let keeper = &mut s.players[usize::from(side)][usize::from(number) - 1];
+            keeper.penalty = 0;
+            if let Some(pose) = &mut keeper.pose {
+                pose.theta = zero(random);
+                pose.y = if random.coin() { zero(random) } else { pose.y };
+            }
+        }
+    }
+    s
+}
+
 fn unit(random: &mut Random) -> f32 {
     (random.u64() >> 40) as f32 / (1u64 << 24) as f32
 }

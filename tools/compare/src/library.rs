@@ -23,6 +23,16 @@ unsafe extern "C" {
         text: *mut u8,
         text_len: usize,
     ) -> i64;
+    fn referee_place(
+        words: *const u32,
+        words_len: usize,
+        xs: *const f32,
+        xs_len: usize,
+        ys: *const f32,
+        ys_len: usize,
+        place: *mut u32,
+        place_len: usize,
+    ) -> i64;
     fn referee_check(words: *const u32, words_len: usize) -> i64;
     fn referee_candidates(start: f32, min: f32, max: f32, step: f32, list: *mut f32, list_len: usize) -> i64;
     fn referee_hypot(x: f32, y: f32) -> f32;
@@ -66,6 +76,24 @@ pub fn coach_fresh(words: &[u32], xs: &[f32], ys: &[f32], (side, number): Asked,
     unsafe {
         let n = referee_coach(words.as_ptr(), words.len(), xs.as_ptr(), xs.len(), ys.as_ptr(), ys.len(), side, number, at, room);
         lent.set_len(usize::try_from(n).unwrap_or(0));
+        n
+    }
+}
+
+pub fn place(words: &[u32], xs: &[f32], ys: &[f32], place: &mut [u32]) -> i64 {
+    // SAFETY: as of the sheet.
+    unsafe {
+        referee_place(words.as_ptr(), words.len(), xs.as_ptr(), xs.len(), ys.as_ptr(), ys.len(), place.as_mut_ptr(), place.len())
+    }
+}
+
+/// The same with `room` words of the vector's capacity, which hold nothing yet; the vector then holds what was written.
+pub fn place_fresh(words: &[u32], xs: &[f32], ys: &[f32], lent: &mut Vec<u32>, room: usize) -> i64 {
+    assert!(lent.is_empty() && room <= lent.capacity());
+    // SAFETY: as of the sheet; beside the answer 1, and no other, five words are written.
+    unsafe {
+        let n = referee_place(words.as_ptr(), words.len(), xs.as_ptr(), xs.len(), ys.as_ptr(), ys.len(), lent.as_mut_ptr(), room);
+        lent.set_len(if n == 1 { room.min(5) } else { 0 });
         n
     }
 }

@@ -11,6 +11,7 @@ mod layout;
 mod leaves;
 mod library;
 mod memory;
+mod place;
 mod records;
 mod refusals;
 mod situation;
@@ -52,7 +53,7 @@ compare candidates [COUNT] [SEED]  compares referee_candidates
 compare leaves [COUNT] [SEED]      compares the leaves
 compare coach [COUNT] [SEED]       compares referee_coach, COUNT situations (100000) of the seed (1)
 compare motion                     tries every distance at which motion could turn on std's hypot
-compare judge                      reads one situation as the program judge does and prints the three sheets
+compare judge                      reads one situation as the program judge does and prints the three sheets and the place
 compare until COUNT SEED           compares until the first difference
 compare bench [SEED] [REPEATS]     times the whole call beside the original
 compare memory [COUNT] [SEED]      calls the entries for valgrind

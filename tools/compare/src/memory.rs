@@ -6,7 +6,7 @@ use crate::generate::{self, CLASSES};
 use crate::library::Asked;
 use crate::random::Random;
 use crate::situation::{Situation, WORDS};
-use crate::{exact_build, library, refusals};
+use crate::{compare, exact_build, library, place, refusals};
 
 /// The number and the text that the exact build gives.
 fn expected(s: &Situation) -> (i64, String) {
@@ -61,6 +61,23 @@ fn lines(table: &Table, s: &Situation) -> bool {
     line && legal && call((0, 21), 9) && call_coach(&words[1..], s, (0, 1), 9, (-100, String::new()))
 }
 
+/// Calls the place's entry with `room` fresh words. Says whether it gives the number and writes exactly the words.
+fn call_place(words: &[u32], s: &Situation, room: usize, (number, place): place::Told) -> bool {
+    let words: Box<[u32]> = words.into();
+    let (xs, ys): (Box<[f32]>, Box<[f32]>) = (s.xs.as_slice().into(), s.ys.as_slice().into());
+    let mut lent: Vec<u32> = Vec::with_capacity(room);
+    let answer = library::place_fresh(&words, &xs, &ys, &mut lent, room);
+    answer == number && lent == place.map_or(Vec::new(), Vec::from)
+}
+
+/// The place with exact room, with more, with one word too few and with none, and a situation's word too few. Nothing is drawn here either.
+fn places(s: &Situation) -> bool {
+    let (words, answer) = (s.to_words(None), compare::exact(s));
+    let rooms = [place::WORDS, place::WORDS + 3, place::WORDS - 1, 0];
+    rooms.into_iter().all(|room| call_place(&words, s, room, place::expected(&answer, room)))
+        && call_place(&words[1..], s, place::WORDS, (-100, None))
+}
+
 /// The candidates' entry with exact room and one place too few, and the leaves.
 fn others(random: &mut Random) -> bool {
     let mut draw = |low, high| random.within(low, high) as f32 / 64.0;
@@ -83,8 +100,9 @@ pub fn run(count: u64, seed: u64) -> bool {
     let mut differences = 0u64;
     for turn in 0..count {
         let s = generate::situation(&mut random, CLASSES[turn as usize % CLASSES.len()]);
-        differences += u64::from(!sheets(&s, &mut random)) + u64::from(!others(&mut random)) + u64::from(!lines(&table, &s));
+        let agree = [sheets(&s, &mut random), others(&mut random), lines(&table, &s), places(&s)];
+        differences += agree.into_iter().filter(|agrees| !agrees).count() as u64;
     }
-    println!("memory: {count} situations, four calls of the sheet, two of the candidates and up to five of the coach for each, {differences} differences");
+    println!("memory: {count} situations, four calls of the sheet, two of the candidates, up to five of the coach and five of the place for each, {differences} differences");
     differences == 0
 }

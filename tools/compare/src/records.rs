@@ -124,14 +124,21 @@ impl List {
     }
 }
 
-/// Slips of the comparison itself: no answer of the oracle shows them.
-const NOT_OF_ANSWERS: [usize; 6] = [
+/// Slips of the comparison itself, and of what no sheet has: no answer of the oracle shows them.
+const NOT_OF_ANSWERS: [usize; 13] = [
+    slips::PLACED_WITHOUT_SIGN,
     slips::WRITE_AFTER,
     slips::WRITE_ON_REFUSAL,
     slips::TURN_KEEPS_ENDS,
     slips::TURN_KEEPS_PLACES,
     slips::NO_EXCEPTION,
     slips::EXCEPTION_WITH_CONTACT,
+    slips::TURNED_ZERO_WITH_SIGN,
+    slips::TURNED_HEADING_KEPT,
+    slips::WORD_AFTER_PLACE,
+    slips::WORDS_ON_REFUSAL,
+    slips::WORDS_WITHOUT_PLACE,
+    slips::REFUSAL_BEFORE_LENGTH,
 ];
 
 /// Adds a situation for each slip that no record shows, and says how many records show each.
@@ -184,6 +191,7 @@ pub fn write(seed: u64) -> bool {
     edges::add_candidates(&mut list, &mut random);
     pairs::add(&mut list, &mut random);
     lines::add(&mut list, &mut random);
+    edges::add_zeros(&mut list);
     let slips_shown = add_slips(&mut list, &mut random, 200_000);
     let text: String = list.records.iter().map(Record::text).collect();
     print!("{text}");

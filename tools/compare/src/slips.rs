@@ -1,6 +1,7 @@
-//! Deliberate slips. Each is off unless it is the one that is switched on. Those up to ZERO_WITHOUT_SIGN are in the third build, into whose
-//! text build.rs puts the calls; the others are in the call of the entry, in the refusals and in the half turn. Those of the coach's lines
-//! have a list of their own: they are where the tests record themselves (told.rs) and where the lines are made (coach.rs).
+//! Deliberate slips. Each is off unless it is the one that is switched on. Those up to PLACED_WITHOUT_SIGN are in the third build, into
+//! whose text build.rs puts the calls; the others are in the calls of the entries, in the refusals, in the half turn and where a place
+//! becomes rows of the sheet. Those of the coach's lines have a list of their own: they are where the tests record themselves (told.rs)
+//! and where the lines are made (coach.rs).
 
 use std::cmp::Ordering;
 use std::sync::atomic::{AtomicUsize, Ordering::Relaxed};
@@ -27,18 +28,29 @@ pub const ZERO_POSITIVE: usize = 16;
 pub const LESS_ANGLE: usize = 17;
 pub const ANGLE_AS_IT_IS: usize = 18;
 pub const ZERO_WITHOUT_SIGN: usize = 19;
-pub const WRITE_AFTER: usize = 20;
-pub const WRITE_ON_REFUSAL: usize = 21;
-pub const HIGHEST_REFUSAL: usize = 22;
-pub const PLACES_4095: usize = 23;
-pub const RADIUS_ZERO: usize = 24;
-pub const TURN_KEEPS_ENDS: usize = 25;
-pub const TURN_KEEPS_PLACES: usize = 26;
-pub const NO_EXCEPTION: usize = 27;
-pub const EXCEPTION_WITH_CONTACT: usize = 28;
+pub const PLACED_WITHOUT_SIGN: usize = 20;
+pub const WRITE_AFTER: usize = 21;
+pub const WRITE_ON_REFUSAL: usize = 22;
+pub const HIGHEST_REFUSAL: usize = 23;
+pub const PLACES_4095: usize = 24;
+pub const RADIUS_ZERO: usize = 25;
+pub const TURN_KEEPS_ENDS: usize = 26;
+pub const TURN_KEEPS_PLACES: usize = 27;
+pub const NO_EXCEPTION: usize = 28;
+pub const EXCEPTION_WITH_CONTACT: usize = 29;
+pub const TURNED_ZERO_WITH_SIGN: usize = 30;
+pub const TURNED_HEADING_KEPT: usize = 31;
+pub const SHEET_KEEPS_SIGN_OF_X: usize = 32;
+pub const SHEET_KEEPS_SIGN_OF_Y: usize = 33;
+pub const SHEET_KEEPS_SIGN_OF_THIRD: usize = 34;
+pub const LEAST_AS_ZERO: usize = 35;
+pub const WORD_AFTER_PLACE: usize = 36;
+pub const WORDS_ON_REFUSAL: usize = 37;
+pub const WORDS_WITHOUT_PLACE: usize = 38;
+pub const REFUSAL_BEFORE_LENGTH: usize = 39;
 
 /// What each slip does; the first five are document 01's.
-pub const SLIPS: [&str; 29] = [
+pub const SLIPS: [&str; 40] = [
     "squares in f32 compared instead of the rounded distance",
     "the deepest defender named first",
     "the first of equal clearances kept",
@@ -59,6 +71,7 @@ pub const SLIPS: [&str; 29] = [
     "the angle for motion is less by 2^-22",
     "the angle for motion is not normalised",
     "the touchline for y of -0 is that of +0",
+    "the decision drops the sign of a placed zero",
     "a byte after the sheet is written",
     "a byte is written on a refusal",
     "the highest refusal wins",
@@ -68,7 +81,20 @@ pub const SLIPS: [&str; 29] = [
     "the half turn keeps the earlier places",
     "the half turn has no exception",
     "the exception looks at no contact",
+    "the half turn of a sheet makes 2147483648 of 0",
+    "the half turn of a sheet keeps the headings",
+    "the sheet keeps the sign of a placed x of -0",
+    "the sheet keeps the sign of a placed y of -0",
+    "the sheet keeps the sign of a placed z or heading of -0",
+    "the sheet has 0 for 2147483649, the number below -0",
+    "a word after the five of the place is written",
+    "words of a place are written on a refusal",
+    "words of a place are written where there is none",
+    "a refusal told before the -100 of fewer than five words",
 ];
+
+/// The slips that no sheet can show: what is decided otherwise is the sign of a zero.
+pub const SEEN_BY_PLACE_ALONE: [usize; 1] = [PLACED_WITHOUT_SIGN];
 
 /// Numbers that are told as each other.
 const EXCHANGES: [(u8, u8); 15] = [
@@ -322,5 +348,13 @@ pub fn zero_sign(y: f32) -> f32 {
         0.0
     } else {
         y
+    }
+}
+
+pub fn placed(x: f32) -> f32 {
+    if on(PLACED_WITHOUT_SIGN) && x == 0.0 {
+        0.0
+    } else {
+        x
     }
 }

@@ -1,5 +1,5 @@
-//! The command `stack`: how many bytes of stack a call of the sheet's entry takes, and one of the coach's. The call runs on a stack of its own that was filled with a
-//! pattern before; what is no longer the pattern was used. A use that happens to write the pattern at the far end would not be seen.
+//! The command `stack`: how many bytes of stack a call of the sheet's entry takes, one of the coach's and one of the place's. The call runs on a stack of its own that was
+//! filled with a pattern before; what is no longer the pattern was used. A use that happens to write the pattern at the far end would not be seen.
 
 use crate::exact_build::oracle::settled;
 use crate::generate::{self, CLASSES};
@@ -17,6 +17,7 @@ struct Call<'a> {
     xs: &'a [f32],
     ys: &'a [f32],
     sheet: &'a mut [u8],
+    place: &'a mut [u32],
     /// The player that the coach's entry is asked for.
     asked: Asked,
     answer: i64,
@@ -32,6 +33,12 @@ extern "C" fn run_coach(call: *mut Call) {
     // SAFETY: as above.
     let call = unsafe { &mut *call };
     call.answer = library::coach(call.words, call.xs, call.ys, call.asked, call.sheet);
+}
+
+extern "C" fn run_place(call: *mut Call) {
+    // SAFETY: as above.
+    let call = unsafe { &mut *call };
+    call.answer = library::place(call.words, call.xs, call.ys, call.place);
 }
 
 extern "C" fn run_nothing(_: *mut Call) {}
@@ -61,19 +68,23 @@ pub fn run(count: u64, seed: u64) -> bool {
     let mut random = Random::new(seed);
     let mut stack = vec![0; SIZE];
     let mut sheet = vec![0; 7470];
-    let (mut most, mut most_coach) = (0, 0);
-    let (mut least, mut least_coach) = (usize::MAX, usize::MAX);
+    let mut place = [0; 5];
+    let entries: [(&str, extern "C" fn(*mut Call)); 3] = [("sheet", run_call), ("coach", run_coach), ("place", run_place)];
+    let (mut most, mut least) = ([0; 3], [usize::MAX; 3]);
     for turn in 0..count {
         let s = generate::situation(&mut random, CLASSES[turn as usize % CLASSES.len()]);
         let words = s.to_words(None);
-        let mut call = Call { words: &words, xs: &s.xs, ys: &s.ys, sheet: &mut sheet, asked: asked(&s), answer: 0 };
+        let mut call =
+            Call { words: &words, xs: &s.xs, ys: &s.ys, sheet: &mut sheet, place: &mut place, asked: asked(&s), answer: 0 };
         let nothing = on_stack(&mut stack, run_nothing, &mut call);
-        let used = on_stack(&mut stack, run_call, &mut call) - nothing;
-        (most, least) = (most.max(used), least.min(used));
-        let used = on_stack(&mut stack, run_coach, &mut call) - nothing;
-        (most_coach, least_coach) = (most_coach.max(used), least_coach.min(used));
+        for (i, (_, entry)) in entries.into_iter().enumerate() {
+            let used = on_stack(&mut stack, entry, &mut call) - nothing;
+            (most[i], least[i]) = (most[i].max(used), least[i].min(used));
+        }
     }
-    println!("stack: {count} situations, from {least} to {most} bytes a call");
-    println!("stack: from {least_coach} to {most_coach} bytes a call of the coach's entry");
-    most < SIZE && most_coach < SIZE
+    println!("stack: {count} situations");
+    for (i, (name, _)) in entries.into_iter().enumerate() {
+        println!("stack: from {} to {} bytes a call of the entry for the {name}", least[i], most[i]);
+    }
+    most.into_iter().all(|most| most < SIZE)
 }

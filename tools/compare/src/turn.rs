@@ -1,6 +1,6 @@
-//! The situation turned half round, what makes two decisions equal, and the one exception, by document 01.
+//! The situation turned half round, what makes two decisions or two sheets equal, and the one exception, by documents 01 and 02.
 
-use crate::decision::{Decision, Place};
+use crate::decision::{Decision, Place, MINUS_ZERO};
 use crate::situation::{Pose, Situation, Wish, BALL_RADIUS, PLAYING, SHOOTOUT, WIDTH};
 use crate::slips::{self, on};
 use std::f32::consts::PI;
@@ -40,6 +40,36 @@ fn heading(theta: f32) -> Option<f32> {
         .into_iter()
         .find(|(from, _)| from.to_bits() == theta.to_bits())
         .map(|(_, to)| to)
+}
+
+/// The pattern of a given heading turned half round.
+fn turned_heading(pattern: u32) -> Option<u32> {
+    heading(f32::from_bits(pattern)).map(f32::to_bits)
+}
+
+/// The value of a row turned half round, if it can be turned: x and y are negated, but for 0, which is written for a zero of either sign; a
+/// heading is turned, but that of a goalkeeper, and the ball's z stay; so do the rows of other kinds.
+fn turned_value(wish: Wish, [kind, side, _, value]: [u32; 4]) -> Option<u32> {
+    let ball = side == 2;
+    match kind {
+        7 | 8 if value == 0 && !on(slips::TURNED_ZERO_WITH_SIGN) => Some(0),
+        7 | 8 => Some(value ^ MINUS_ZERO),
+        9 if !ball && !matches!(wish, Wish::Goalkeeper(_)) && !on(slips::TURNED_HEADING_KEPT) => turned_heading(value),
+        _ => Some(value),
+    }
+}
+
+/// Whether a sheet is another one turned: as many rows, the header among them, each with the same kind, side and number, and the value turned.
+pub fn same_sheets(wish: Wish, text: &str, turned: &str) -> bool {
+    let (Some(rows), Some(turned)) = (rows(text), rows(turned)) else { return false };
+    let as_turned = |row: [u32; 4]| turned_value(wish, row).map(|value| [row[0], row[1], row[2], value]);
+    rows.len() == turned.len() && rows.into_iter().zip(turned).all(|(row, turned)| as_turned(row) == Some(turned))
+}
+
+/// The rows of a sheet: the numbers of each line, if there are four in each.
+fn rows(text: &str) -> Option<Vec<[u32; 4]>> {
+    let numbers = |line: &str| line.split_whitespace().map(|n| n.parse().ok()).collect::<Option<Vec<u32>>>();
+    text.lines().map(|line| numbers(line)?.try_into().ok()).collect()
 }
 
 /// Whether `e` is `d` turned, item by item; x and y negated, zeros of both signs alike.

@@ -3,7 +3,7 @@
 use mathlib.Core.Path.{_≡_, refl, sym, ap, ap₂, _∙_, subst}
 use mathlib.Core.Logic.{_⊎_, inl, inr}
 use mathlib.Core.Bool.{Bool, true, false, not, cond, _&&_, _||_}
-use Prim.Native.Nat.{ℕ, suc, _+_, _*_, _≤_, _<_, min, max}
+use Prim.Native.Nat.{ℕ, zero, suc, _+_, _*_, _≤_, _<_, min, max}
 use native.Mathlib.Nat.{le-of-eq}
 use native.Mathlib.Omega.{arith}
 use borrow.Author.Tests.{le-leb, lt-leb, leb-true, leb-false}
@@ -230,3 +230,11 @@ clamp-turned f x lo hi p q r = simp (le-neg, lt-neg) (go (le lo hi) (lt hi x) (l
 -- the same for bounds that are each other's negative
 pub clamp-neg : (f : Format) (x h : Float) → T (fits f x) → T (fits f h) → clamp (neg x) (neg h) h ≡ neg (clamp x (neg h) h)
 clamp-neg f x h p q = ap (clamp (neg x) (neg h)) (sym (neg-neg h)) ∙ clamp-turned f x (neg h) h p (neg-fits f h q) q
+
+-- ---- which values fit: the sign makes no difference
+pub sign-fits : (f : Format) (t : Bool) (x : Float) → T (fits f x) → T (fits f (withSign t x))
+unfolding fits withSign
+sign-fits f t nan h = h
+sign-fits f t (inf s) h = h
+sign-fits f t (fin s zero e) h = h
+sign-fits f t (fin s (suc m) e) h = h

@@ -1,4 +1,5 @@
-//! Refusals with every reason and its near miss, the order of refusals, rooms, words that mean nothing, and candidates: written down, not searched for.
+//! Refusals with every reason and its near miss, the order of refusals, rooms, words that mean nothing, candidates, and zeros of a place: written down, not
+//! searched for.
 
 use super::{List, Question};
 use crate::compare::plain;
@@ -209,6 +210,32 @@ fn add_meaningless(list: &mut List, random: &mut Random) {
         let room = super::sheet_answer(&s, 8192).len();
         let question = Question::Situation { words, xs: s.xs.clone(), ys: s.ys.clone() };
         list.add_question("words that mean nothing", why, question, room);
+    }
+}
+
+/// Zeros of both signs that are placed as they are, and the numbers next to them: x, y and z of the ball at a direct free kick, and y and heading of a
+/// goalkeeper. They stand at the end of the list, so that the records before them stay as they were.
+pub fn add_zeros(list: &mut List) {
+    // Each with the ends, and with a goalkeeper's side.
+    const NUMBERS: [(f32, u8); 4] = [(0.0, 0), (-0.0, 1), (LEAST, 0), (-LEAST, 1)];
+    let mut put = |why: String, s: Situation| list.add("zeros of a place", why, &s);
+    let free_kick = Situation { set_play: 2, wish: Wish::BallAtRestart, ..plain() };
+    for (value, sides) in NUMBERS {
+        put(format!("the ball at {value:?}, {value:?}, ends {sides}"), Situation { ball: [value, value, 0.125], sides, ..free_kick.clone() });
+    }
+    for (x, y) in [(-0.0, 0.5), (0.5, -0.0)] {
+        put(format!("the ball at {x:?}, {y:?}"), Situation { ball: [x, y, 0.125], ..free_kick.clone() });
+    }
+    for radius in [0.0, -0.0, LEAST] {
+        let mut s = free_kick.clone();
+        s.sizes[BALL_RADIUS] = radius;
+        put(format!("a ball of radius {radius:?}"), s);
+    }
+    for (value, side) in NUMBERS {
+        let mut s = Situation { set_play: PENALTY_KICK, wish: Wish::Goalkeeper(side), ..plain() };
+        s.goalkeepers[usize::from(side)] = Some(1);
+        s.players[usize::from(side)][0].pose = Some(Pose { x: 1.0, y: value, theta: value, radius: 0.25 });
+        put(format!("the goalkeeper of side {side}, y and heading {value:?}"), s);
     }
 }
 

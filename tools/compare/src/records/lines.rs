@@ -191,9 +191,9 @@ fn ball_moved(s: &Situation, d: &Decision) -> bool {
     matches!(d.place, Some(Place::Ball(at)) if at[0].to_bits() != s.ball[0].to_bits())
 }
 
-/// The signs of a place's x and y.
+/// The signs of a place's x and y as the sheet shows them: a zero has none, and counts as positive.
 fn signs(d: &Decision) -> String {
-    let sign = |x: f32| if x.is_sign_negative() { "-" } else { "+" };
+    let sign = |x: f32| if x < 0.0 { "-" } else { "+" };
     match d.place {
         None => String::new(),
         Some(Place::Ball([x, y, _]) | Place::Player { x, y, .. }) => format!("{}{}", sign(x), sign(y)),

@@ -234,11 +234,9 @@ fn ball_change(s: &Situation, a: &Decision, b: &Decision) -> Option<String> {
     (a.ball != b.ball).then(|| format!("ball {}{shot}", sorted(code(a), code(b))))
 }
 
+/// The three numbers of a place as the sheet has them: the sign of a zero, which it does not show, makes no pair.
 fn numbers(place: Option<Place>) -> Option<[u32; 3]> {
-    place.map(|place| match place {
-        Place::Ball(at) => at.map(f32::to_bits),
-        Place::Player { x, y, theta, .. } => [x, y, theta].map(f32::to_bits),
-    })
+    place.map(|place| place.rows().map(|[_, _, _, value]| value))
 }
 
 fn place_change(s: &Situation, a: &Decision, b: &Decision) -> Option<String> {

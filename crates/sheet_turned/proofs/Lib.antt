@@ -1,0 +1,3 @@
+mod Low
+pub mod Values
+pub mod Sheet
