@@ -8,8 +8,9 @@
  *
  * Float mode. What the entries answer is said of IEEE 754's default mode: rounding to nearest, subnormal numbers kept. A program that calls fesetround, sets flush-to-zero or
  * denormals-are-zero, or is linked with -ffast-math, runs in another. There the entries that compute with floats and answer an int64_t (referee_sheet, referee_coach, referee_place,
- * referee_candidates) answer REFEREE_OTHER_FLOAT_MODE before anything else and keep every byte; referee_check computes with none. The three entries that answer a float (referee_hypot,
- * referee_normalize_angle, referee_rem_euclid) have no answer for it: they want the default mode and do not look.
+ * referee_candidates) answer REFEREE_OTHER_FLOAT_MODE before anything else and keep every byte; referee_check, referee_read_sheet and referee_read_item compute with none, never answer
+ * it, and answer the same in every mode. The three entries that answer a float (referee_hypot, referee_normalize_angle, referee_rem_euclid) have no answer for it: they want the
+ * default mode and do not look.
  *
  * Threads and stack. No entry has state of its own, so that threads may call them at the same time, each with its own memory to write to. A call takes no heap and less than
  * 30 kB of stack (docs/BENCHMARKS.md has what was measured).
@@ -36,10 +37,13 @@ extern "C" {
 /* The words of a place. */
 #define REFEREE_PLACE_WORDS 5
 
+/* The words of an item of a sheet. */
+#define REFEREE_ITEM_WORDS 4
+
 /* No list of candidates has more places than this. */
 #define REFEREE_CANDIDATES 8200
 
-/* Answers below 0 beside the refusals, which are -1 to -8: the words are no situation, the side is neither Home nor Away, or fewer than five words are lent for a place; the
+/* Answers below 0 beside the refusals, which are -1 to -11: the words are no situation, the side is neither Home nor Away, or fewer words are lent than a place or an item has; the
  * processor's float mode is not the default. */
 #define REFEREE_MALFORMED (-100)
 #define REFEREE_OTHER_FLOAT_MODE (-101)
@@ -68,6 +72,17 @@ int64_t referee_coach(const uint32_t *words, size_t words_len, const float *xs, 
  * written. */
 int64_t referee_place(const uint32_t *words, size_t words_len, const float *xs, size_t xs_len, const float *ys, size_t ys_len, uint32_t *place,
                       size_t place_len);
+
+/* Whether the text, all of it, is a sheet: hand over as many bytes as referee_sheet has answered. Answers how many lines follow the header, at most 165, or -n for the first refusal:
+ * 9 where a line is not 45 bytes in column form, or a number has a leading zero or exceeds 32 bits; 10 where the first line has kind 0 and its count differs from the lines after
+ * it; 11 for any other breach, an empty text included. Nothing is written. */
+int64_t referee_read_sheet(const uint8_t *text, size_t text_len);
+
+/* Reads the item of one line of a sheet, counted after the header from 1: writes its kind, side, number and value into the first REFEREE_ITEM_WORDS of the lent words; those after
+ * them are kept. In kinds 7, 8 and 9 the value is the pattern of a finite float, that of a zero 0. Answers 1; 0 where there is none, for line 0 and for every number past the last
+ * line; or -n for the refusal n of the text (9 to 11, as referee_read_sheet, whatever line is asked for), or REFEREE_MALFORMED, before any refusal where fewer words are lent. Where
+ * the answer is 0 or below nothing is written. */
+int64_t referee_read_item(const uint8_t *text, size_t text_len, uint64_t line, uint32_t *item, size_t item_len);
 
 /* Fills the front of the lent list with the candidates for a penalised player's place and keeps the rest. Answers how many there are, or -n for the refusal n
  * (5 or 6), or REFEREE_OTHER_FLOAT_MODE; where the answer is below 0 nothing is written. */

@@ -8,7 +8,8 @@ usage: make.py            write the files
 Expected values are document 01's: case A and its lines under 'The sheet', the cases under 'Both sides of a line',
 and the table of refusals. What is printed for an input that is no situation was worked out by hand from the layout
 of an input; the coach's lines, document 02's first request, from the original's rules.rs and the words of
-docs/COACH.md; the places with zeros, its second request, from the original's lib.rs. Nothing of the project is run.
+docs/COACH.md; the places with zeros, its second request, from the original's lib.rs; the texts that are read, its third
+request, from its own words (readings.py). Nothing of the project is run.
 
 README.md has the form of a record. A situation is words of 32 bits; a float is its bit pattern. tools/words/layout.py
 has where each run of words begins; PLACES has the words that cases change, by name. Players are in the order Home 1
@@ -26,6 +27,7 @@ CRATE = pathlib.Path(__file__).resolve().parents[2] / "crates" / "case_checks"
 
 sys.path.insert(0, str(pathlib.Path(__file__).resolve().parents[1] / "words"))
 import layout  # tools/words/make writes it
+import readings
 from layout import AT, NO_NUMBER, NO_SIDE
 
 HOME, AWAY = layout.SIDE_HOME, layout.SIDE_AWAY
@@ -156,10 +158,12 @@ BELOW_0 = 0x8000_0001
 TELLS = 1  # the kind of a record whose input the program `judge` reads, and whose answer is told: a refusal, or what is wrong
 ANSWERS = 2  # the same, and the answer is a sheet
 COACH_TELLS, COACH_ANSWERS = 3, 4  # the same two of `judge coach`, whose answer is lines for the coach
+READ_TELLS, READ_ANSWERS = 5, 6  # the same two of `judge read`, whose answer is a line for each item of a sheet
 WRITE_SHEET = 10  # the kind of a record of the library's entry that no refusal is expected of; the refusal n makes it 10 + n
 WRITE_LINE = 20  # the same of the coach's line of one player
+READ_ROOM = 7680  # bytes that are lent for the items of a sheet
 MOST = 512  # bytes that are lent where a case says nothing else
-LIST_ROOM = 262144  # bytes that the program case_checks has for the list
+LIST_ROOM = 393216  # bytes that the program case_checks has for the list
 
 
 def sheet(rows):
@@ -931,6 +935,23 @@ def judged_coach():
     ]
 
 
+def read_sheets():
+    """What `judge read` answers and tells: the texts of readings.py, and A's sheet with too few bytes for its two lines, which have 45 and 14."""
+    cases = []
+    for name, given, expected in readings.CASES:
+        kind, answer = (READ_ANSWERS, readings.said(given)) if expected >= 0 else (READ_TELLS, f"refused {-expected}\n")
+        assert expected < 0 or answer.count("\n") == expected, name
+        cases.append((f"read, {name}", record(kind, READ_ROOM, given.decode("latin-1"), answer)))
+    lines = "Home 5 is in excess in its goal area, rank 1\ngoal for Away\n"
+    sheet_a = readings.A.decode()
+    return cases + [
+        ("read, case A, 59 bytes", record(READ_ANSWERS, 59, sheet_a, lines)),
+        ("read, case A, 58 bytes", record(READ_ANSWERS, 58, sheet_a, "")),
+        ("read, empty text, 11 bytes", record(READ_TELLS, 11, "", "refused 11\n")),
+        ("read, empty text, 10 bytes", record(READ_TELLS, 10, "", "")),
+    ]
+
+
 def main():
     """Writes the files, compares them, or prints the names."""
     assert len(A) == layout.WORDS and set(CASE_A) <= set(AT), len(A)
@@ -938,6 +959,7 @@ def main():
     cases += free_kick_places() + keeper_places()
     cases += refusals() + several() + inputs() + sheets_of_a()
     cases += coach_lines() + coach_room() + coach_numbers() + judged_coach()
+    cases += read_sheets()
     if sys.argv[1:] == ["--list"]:
         for number, (name, _) in enumerate(cases, 1):
             print(f"{number}: {name}")
@@ -948,8 +970,8 @@ def main():
     for name, text in texts.items():
         file = CRATE / name
         if sys.argv[1:] != ["--check"]:
-            file.write_bytes(text.encode())
-        elif not file.is_file() or file.read_bytes() != text.encode():
+            file.write_bytes(text.encode("latin-1"))
+        elif not file.is_file() or file.read_bytes() != text.encode("latin-1"):
             print("not as made:", name)
             wrong = 1
     return wrong

@@ -1,4 +1,5 @@
-/* Tries referee_sheet, referee_coach, referee_place, referee_candidates and referee_check of libreferee_c.a as a C program calls them, in every float mode.
+/* Tries referee_sheet, referee_coach, referee_place, referee_candidates, referee_check, referee_read_sheet and referee_read_item of libreferee_c.a as a C program calls them, in every
+ * float mode.
  *
  * usage: entries CASE_A SHEET default|flushing
  *
@@ -103,6 +104,120 @@ static const Placing placings[] = {
 
 enum { PLACINGS = sizeof placings / sizeof placings[0] };
 
+/* Texts that are read. `every_kind` has lines of all kinds: Home 4 illegal; Home 9 and Home 3 too many; Home 2 the kicker; Away 6 leaving; Away 8 moved; a throw-in for Away; and Home 20
+ * placed at -2.5, 0 and PI/2. In the others something is wrong, by request 3: a leading zero, which is 9, in the last line; a count of 1 before two lines, which is 10; kinds that
+ * fall, a place without its third number or with the pattern of -0, which are 11; and several at once. */
+static const char every_kind[] = "          0          2         10          1\n"
+                                 "          1          0          4          1\n"
+                                 "          2          0          9          1\n"
+                                 "          2          0          3          2\n"
+                                 "          3          0          2          0\n"
+                                 "          4          1          6          0\n"
+                                 "          5          1          8          0\n"
+                                 "          6          1          4          0\n"
+                                 "          7          0         20 3223322624\n"
+                                 "          8          0         20          0\n"
+                                 "          9          0         20 1070141403\n";
+static const char with_zero[] = "          0          2          2          1\n"
+                                "          2          0          5          1\n"
+                                "          6          1         01          0\n";
+static const char with_count[] = "          0          2          1          1\n"
+                                 "          2          0          5          1\n"
+                                 "          6          1          1          0\n";
+static const char with_fall[] = "          0          2          2          1\n"
+                                "          6          1          1          0\n"
+                                "          2          0          5          1\n";
+static const char without_third[] = "          0          2          2          1\n"
+                                    "          7          2          0          0\n"
+                                    "          8          2          0          0\n";
+static const char with_minus_zero[] = "          0          2          3          1\n"
+                                      "          7          2          0 2147483648\n"
+                                      "          8          2          0          0\n"
+                                      "          9          2          0          0\n";
+static const char count_and_zero[] = "          0          2          1          1\n"
+                                     "          2          0          5          1\n"
+                                     "          6          1         01          0\n";
+static const char count_and_fall[] = "          0          0          1          1\n"
+                                     "          6          1          1          0\n"
+                                     "          2          0          5          1\n";
+static const char all_three[] = "          0          0          1          1\n"
+                                "          6          1          1          0\n"
+                                "          2          0         05          1\n";
+
+/* A call of referee_read_sheet, by the first so many bytes of a text, where 0 stands for all of them; and what it answers. */
+typedef struct {
+    const char *name, *text;
+    size_t length;
+    int answer;
+} Reading;
+
+static const Reading readings[] = {
+    {"case A", cases[0].sheet, 0, 2},
+    {"a sheet of the header alone", cases[2].sheet, 0, 0},
+    {"a line of every kind", every_kind, 0, 10},
+    {"-9 where the last byte is missing", cases[0].sheet, 134, -9},
+    {"-9 of one byte", cases[0].sheet, 1, -9},
+    {"-9 of a leading zero", with_zero, 0, -9},
+    {"-9 of 4294967296", "          0          2          0 4294967296\n", 0, -9},
+    {"-9 of a tab for a blank", "          0\t         2          0          1\n", 0, -9},
+    {"-9 of a number at the left of its columns", "0                    2          0          1\n", 0, -9},
+    {"-10 of a count too low", with_count, 0, -10},
+    {"-10 of a count too great", cases[0].sheet, 90, -10},
+    {"-10 of 4294967295", "          0          2 4294967295          1\n", 0, -10},
+    {"-11 of an empty text", "", 0, -11},
+    {"-11 without a header", "          2          0          5          1\n", 0, -11},
+    {"-11 of a header for Home", "          0          0          0          1\n", 0, -11},
+    {"-11 of kinds that fall", with_fall, 0, -11},
+    {"-11 of a place without its third number", without_third, 0, -11},
+    {"-11 of 2147483648", with_minus_zero, 0, -11},
+    {"-9 before -10", count_and_zero, 0, -9},
+    {"-10 before -11", count_and_fall, 0, -10},
+    {"-9 before -10 and -11", all_three, 0, -9},
+};
+
+enum { READINGS = sizeof readings / sizeof readings[0] };
+
+/* A call of referee_read_item with so many lent words, what it answers and what it writes. */
+typedef struct {
+    const char *name, *text;
+    uint64_t line;
+    size_t room;
+    int answer;
+    uint32_t item[REFEREE_ITEM_WORDS];
+} Asking;
+
+enum { ITEM_ROOM = REFEREE_ITEM_WORDS + 4 };
+
+static const Asking askings[] = {
+    {"the first line", cases[0].sheet, 1, REFEREE_ITEM_WORDS, 1, {2, 0, 5, 1}},
+    {"the last line", cases[0].sheet, 2, REFEREE_ITEM_WORDS, 1, {6, 1, 1, 0}},
+    {"words past the fourth are kept", cases[0].sheet, 2, 6, 1, {6, 1, 1, 0}},
+    {"a verdict", every_kind, 1, REFEREE_ITEM_WORDS, 1, {1, 0, 4, 1}},
+    {"the second of an excess", every_kind, 3, REFEREE_ITEM_WORDS, 1, {2, 0, 3, 2}},
+    {"x of a place", every_kind, 8, REFEREE_ITEM_WORDS, 1, {7, 0, 20, 0xc0200000}},
+    {"y of a place", every_kind, 9, REFEREE_ITEM_WORDS, 1, {8, 0, 20, 0}},
+    {"the heading of a place", every_kind, 10, REFEREE_ITEM_WORDS, 1, {9, 0, 20, 0x3fc90fdb}},
+    {"0 of line 0", cases[0].sheet, 0, REFEREE_ITEM_WORDS, 0, {0}},
+    {"0 past the last line", cases[0].sheet, 3, REFEREE_ITEM_WORDS, 0, {0}},
+    {"0 of line 2^32 + 1", cases[0].sheet, 4294967297, REFEREE_ITEM_WORDS, 0, {0}},
+    {"0 of line 2^64 - 1", cases[0].sheet, UINT64_MAX, REFEREE_ITEM_WORDS, 0, {0}},
+    {"0 of line 1 of a sheet without one", cases[2].sheet, 1, REFEREE_ITEM_WORDS, 0, {0}},
+    {"-9", with_zero, 1, REFEREE_ITEM_WORDS, -9, {0}},
+    {"-10", with_count, 1, 6, -10, {0}},
+    {"-11", with_fall, 1, REFEREE_ITEM_WORDS, -11, {0}},
+    {"-9 of line 0", all_three, 0, REFEREE_ITEM_WORDS, -9, {0}},
+    {"-10 past the last line", count_and_fall, 3, REFEREE_ITEM_WORDS, -10, {0}},
+    {"-11 of line 2^64 - 1", with_fall, UINT64_MAX, REFEREE_ITEM_WORDS, -11, {0}},
+    {"-11 of an empty text", "", 0, REFEREE_ITEM_WORDS, -11, {0}},
+    {"-100 of three words lent", cases[0].sheet, 1, 3, -100, {0}},
+    {"-100 without words lent", cases[0].sheet, 1, 0, -100, {0}},
+    {"-100 of three words lent where there is no item", cases[0].sheet, 0, 3, -100, {0}},
+    {"-100 of three words lent before -9", with_zero, 1, 3, -100, {0}},
+    {"-100 without words lent before -11", "", 1, 0, -100, {0}},
+};
+
+enum { ASKINGS = sizeof askings / sizeof askings[0] };
+
 static void stop(const char *why) {
     printf("FAILED\ttools/checks/entries.c\t%s\n", why);
     exit(2);
@@ -199,12 +314,35 @@ static bool place_is(const Placing *call, bool right) {
     return true;
 }
 
+/* The same of a call of referee_read_sheet, in any mode. */
+static bool reading_is(const Reading *call) {
+    size_t length = call->length > 0 ? call->length : strlen(call->text);
+    long long n = referee_read_sheet((const uint8_t *)call->text, length);
+    return n == call->answer ? true : wrong("referee_read_sheet", call->name, n, "");
+}
+
+/* The same of a call of referee_read_item, in any mode. */
+static bool item_is(const Asking *call) {
+    uint32_t lent[ITEM_ROOM], want[ITEM_ROOM];
+    for (size_t i = 0; i < ITEM_ROOM; i++)
+        lent[i] = want[i] = 0xffc00000u | (uint32_t)i;
+    if (call->answer == 1)
+        memcpy(want, call->item, sizeof call->item);
+    long long n = referee_read_item((const uint8_t *)call->text, strlen(call->text), call->line, lent, call->room);
+    if (n != call->answer)
+        return wrong("referee_read_item", call->name, n, "");
+    if (memcmp(lent, want, sizeof lent) != 0)
+        return wrong("referee_read_item", call->name, n, ", other words");
+    return true;
+}
+
 static bool check_is(const char *name, const uint32_t *words, size_t length, long long want) {
     long long n = referee_check(words, length);
     return n == want ? true : wrong("referee_check", name, n, "");
 }
 
-/* Everything in the mode that is set. In a wrong one -101 comes before what else there is to tell, and all that is lent is kept; referee_check computes with no floats. */
+/* Everything in the mode that is set. In a wrong one -101 comes before what else there is to tell, and all that is lent is kept; referee_check, referee_read_sheet and referee_read_item
+ * compute with no floats. */
 static void in_mode(const char *name, bool right) {
     bool ok = true;
     for (size_t i = 0; i < 3; i++)
@@ -220,6 +358,10 @@ static void in_mode(const char *name, bool right) {
     ok &= candidates_are(5, right ? -6 : -101);
     ok &= candidates_are(0, right ? -6 : -101);
     ok &= check_is("case A", cases[0].words, REFEREE_WORDS, 0);
+    for (size_t i = 0; i < READINGS; i++)
+        ok &= reading_is(&readings[i]);
+    for (size_t i = 0; i < ASKINGS; i++)
+        ok &= item_is(&askings[i]);
     tell(name, ok);
 }
 
@@ -295,6 +437,18 @@ static void place_calls(void) {
     for (size_t i = 0; i < PLACINGS; i++) {
         snprintf(name, sizeof name, "referee_place: %s", placings[i].name);
         tell(name, place_is(&placings[i], true));
+    }
+}
+
+static void read_calls(void) {
+    char name[100];
+    for (size_t i = 0; i < READINGS; i++) {
+        snprintf(name, sizeof name, "referee_read_sheet: %s", readings[i].name);
+        tell(name, reading_is(&readings[i]));
+    }
+    for (size_t i = 0; i < ASKINGS; i++) {
+        snprintf(name, sizeof name, "referee_read_item: %s", askings[i].name);
+        tell(name, item_is(&askings[i]));
     }
 }
 
@@ -399,6 +553,7 @@ int main(int count, char **arguments) {
         modes();
         coach_calls();
         place_calls();
+        read_calls();
         check_words();
     }
     puts("end");

@@ -6,7 +6,7 @@ use lib.Dec.{eqb}
 use lib.ListN.{length, getD}
 use Rattle.lists.specs.Every.{everyTo}
 use Rattle.arguments.specs.declared.Command.{Command}
-use Rattle.arguments.specs.declared.Command.the-variants.{Sheet, Coach, Help}
+use Rattle.arguments.specs.declared.Command.the-variants.{Sheet, Coach, Read, Help}
 use Rattle.arguments.specs.declared.MaybeCommand.{MaybeCommand}
 use Rattle.arguments.specs.declared.MaybeCommand.the-variants.{NoCommand, Of}
 use Rattle.arguments.specs.declared.Source.{Source}
@@ -26,6 +26,10 @@ sheetWord = 115 ∷ 104 ∷ 101 ∷ 101 ∷ 116 ∷ []
 abbrev pub coachWord : List ℕ
 coachWord = 99 ∷ 111 ∷ 97 ∷ 99 ∷ 104 ∷ []
 
+-- "read"
+abbrev pub readWord : List ℕ
+readWord = 114 ∷ 101 ∷ 97 ∷ 100 ∷ []
+
 -- "help"
 abbrev pub helpWord : List ℕ
 helpWord = 104 ∷ 101 ∷ 108 ∷ 112 ∷ []
@@ -36,7 +40,7 @@ dash = 45 ∷ []
 
 -- the command that a word is, or none
 unfoldable pub commandOf : List ℕ → MaybeCommand
-commandOf word = cond (isWord word sheetWord) (Of Sheet) (cond (isWord word coachWord) (Of Coach) (cond (isWord word helpWord) (Of Help) NoCommand))
+commandOf word = cond (isWord word sheetWord) (Of Sheet) (cond (isWord word coachWord) (Of Coach) (cond (isWord word readWord) (Of Read) (cond (isWord word helpWord) (Of Help) NoCommand)))
 
 -- standard input for "-", otherwise the file of that name
 unfoldable pub sourceOf : List ℕ → Source → Source

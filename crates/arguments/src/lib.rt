@@ -7,6 +7,7 @@ ghost use Rattle.arguments.specs.Arguments as Spec;
 pub enum Command {
     Sheet,
     Coach,
+    Read,
     Help,
 }
 
@@ -53,6 +54,9 @@ pub fn command_of(word: &[u8]) -> MaybeCommand
     }
     if is_word(word, b"coach") {
         return MaybeCommand::Of(Command::Coach);
+    }
+    if is_word(word, b"read") {
+        return MaybeCommand::Of(Command::Read);
     }
     if is_word(word, b"help") {
         return MaybeCommand::Of(Command::Help);

@@ -1,4 +1,4 @@
-// Compares document 01's cases, the coach's lines, and inputs that are no situation, with what the code gives. The list of standard input has the form of the crate `records`, and
+// Compares document 01's cases, the coach's lines, inputs that are no situation, and texts that may be sheets, with what the code gives. The list of standard input has the form of the crate `records`, and
 // README.md says what its records are. Writes a line for each record that does not agree, and last how many agree of how many.
 mod sheets;
 
@@ -11,7 +11,7 @@ use records::Record;
 use std::num::wrapping_add_u64;
 
 // Room for the list.
-const ROOM: usize = 262144;
+const ROOM: usize = 393216;
 
 // More records than the list has.
 const MOST: u32 = 10000;
@@ -34,7 +34,7 @@ fn agrees(list: &[u8], r: Record) -> bool
     let answer = &list[middle..end];
     let kind = r.kind;
     match kind {
-        1..=4 => sheets::judged(kind, input, r.lent, answer),
+        1..=6 => sheets::judged(kind, input, r.lent, answer),
         10..=17 => sheets::called(false, input, r.lent, kind - 10, answer),
         20..=28 => sheets::called(true, input, r.lent, kind - 20, answer),
         _ => false,

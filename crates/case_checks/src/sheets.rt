@@ -15,15 +15,18 @@ const SHEET_NUMBERS: usize = 566;
 
 const NUMBERS: usize = 568;
 
-// What `judge` prints for a text, where the kind is at most 2, or `judge coach`.
+// What `judge` prints for a text, where the kind is at most 2, or `judge coach`, where it is at most 4, or `judge read`.
 fn replied(kind: u32, text: &[u8], out: &mut [u8]) -> Reply {
     if kind <= 2 {
         return desk::judge(text, out);
     }
-    desk::coach(text, out)
+    if kind <= 4 {
+        return desk::coach(text, out);
+    }
+    desk::read(text, out)
 }
 
-// Whether this is told for the input, with so many bytes lent, where the kind is 1 or 3, or answered where it is 2 or 4, and all other bytes are kept.
+// Whether this is told for the input, with so many bytes lent, where the kind is 1, 3 or 5, or answered where it is 2, 4 or 6, and all other bytes are kept.
 pub(crate) fn judged(kind: u32, input: &[u8], lent: usize, answer: &[u8]) -> bool {
     if MOST < lent {
         return false;

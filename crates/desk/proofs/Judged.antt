@@ -35,7 +35,7 @@ use Rattle.desk.specs.declared.Reply.{Reply}
 use Rattle.desk.specs.declared.Reply.the-variants.{Answer, Told}
 use Rattle.desk.specs.declared.Wanted.{Wanted}
 use Rattle.desk.specs.declared.Wanted.the-variants.{Sheet, Sentences}
-use Rattle.desk.specs.Desk.{Printed, told, answerPrinted, wantedText, wantedAnswer, wantedAfter, situationPrinted, placesFrom, numbersPrinted, inputPrinted, textPrinted, printedIn, replyIn}
+use Rattle.desk.specs.Desk.{Printed, answer, told, answerPrinted, wantedText, wantedAnswer, wantedAfter, situationPrinted, placesFrom, numbersPrinted, inputPrinted, textPrinted, printedIn, replyIn}
 
 -- what the code adds to bytes that already hold the sheet of the answer
 abbrev addedReply : SheetAnswer → List ℕ → Reply
@@ -58,6 +58,11 @@ prints-as p same out next r e t = (t .0 ∙ ap (λ (u : Printed). replyIn u out)
 pub told-printed : (text out next : List ℕ) (n : ℕ) → n ≡ writtenIn text out → next ≡ lineIn text out → Prints (Told n) next (told text) out
 unfolding replyIn printedIn
 told-printed text out next n a b = (ap Told a, b)
+
+-- a text that is answered
+pub answer-said : (text out next : List ℕ) (n : ℕ) → n ≡ writtenIn text out → next ≡ lineIn text out → Prints (Answer n) next (answer text) out
+unfolding replyIn printedIn
+answer-said text out next n a b = (ap Answer a, b)
 
 -- an answer of a text, and what the reply makes of it: the refusals r of the situation and then k, of the lent bytes
 module _ (r k : ℕ) (text out : List ℕ) where

@@ -1,1 +1,3 @@
 mod Judged
+mod Items
+mod Written

@@ -1,6 +1,9 @@
--- What is printed for a text that may be a situation: its sheet or the coach's lines, the number of the refusal, or one line that says at which number something is wrong and what. Definitions only.
-use mathlib.Core.List.{List}
+-- What is printed for a text that may be a situation: its sheet or the coach's lines, the number of the refusal, or one line that says at which number something is wrong and what;
+-- and for one that may be a sheet: a line for each of its items, or the number of the refusal. Definitions only.
+use mathlib.Core.Bool.{cond}
+use mathlib.Core.List.{List, [], _∷_, _++_}
 use Prim.Native.Nat.{ℕ, _+_}
+use lib.Dec.{eqb}
 use lib.Ieee.{Float, binary32, ofBits}
 use lib.ListN.{getD, take}
 use Rattle.lists.specs.Table.{table}
@@ -18,12 +21,17 @@ use Rattle.coach.specs.Coach.{sentencesOf, sentencesAnswer, sentencesAfter}
 use Rattle.sheet.specs.Sheet.{textOf}
 use Rattle.sheet.specs.declared.text.SheetAnswer.{SheetAnswer}
 use Rattle.sheet.specs.declared.text.SheetAnswer.the-variants.{Refused, Written}
+use Rattle.items.specs.declared.Item.{Item}
+use Rattle.reading.specs.Reading.{readRefusal, itemsIn}
+use Rattle.reading.specs.declared.ItemRead.{ItemRead}
+use Rattle.reading.specs.declared.ItemRead.the-variants.{RefusedItem, NoItem, ItemAt}
+use Rattle.item_lines.specs.ItemLines.{itemLine}
 use Rattle.desk.specs.declared.Reply.{Reply}
 use Rattle.desk.specs.declared.Reply.the-variants.{Answer, Told}
 use Rattle.desk.specs.declared.Wanted.{Wanted}
 use Rattle.desk.specs.declared.Wanted.the-variants.{Sheet, Sentences}
 
--- what is printed: an answer, a sheet or the coach's lines, or something else that is told, a refusal or what is wrong with the input
+-- what is printed: an answer, a sheet, the coach's lines or those of items, or something else that is told, a refusal or what is wrong with the input
 pub data Printed : Type 0 where
   answer : List ℕ → Printed
   told : List ℕ → Printed
@@ -76,6 +84,16 @@ judgedPrinted text lent = textPrinted Sheet text lent
 abbrev pub coachedPrinted : List ℕ → ℕ → Printed
 coachedPrinted text lent = textPrinted Sentences text lent
 
+-- ---- a sheet that is read
+-- the lines of items, one after the other
+unfoldable pub itemLines : List Item → List ℕ
+itemLines [] = []
+itemLines (i ∷ is) = itemLine i ++ itemLines is
+
+-- the lines of its items, or the refusal
+unfoldable pub readPrinted : List ℕ → Printed
+readPrinted text = cond (eqb (readRefusal text) 0) (answer (itemLines (itemsIn text))) (told (refusedLine (readRefusal text)))
+
 -- ---- on lent bytes
 -- what is printed as a text
 abbrev pub printedText : Printed → List ℕ
@@ -90,3 +108,9 @@ printedIn p out = lineIn (printedText p) out
 unfoldable pub replyIn : Printed → List ℕ → Reply
 replyIn (answer text) out = Answer (writtenIn text out)
 replyIn (told text) out = Told (writtenIn text out)
+
+-- ---- of the private functions: the line of what is read of a line, where it is an item
+abbrev pub foundLine : ItemRead → List ℕ
+foundLine (RefusedItem n) = []
+foundLine NoItem = []
+foundLine (ItemAt item) = itemLine item

@@ -13,8 +13,8 @@ use libc::STDOUT_FILENO;
 // Room for the longest input, 8,759 numbers of ten digits, almost three times.
 const ROOM: usize = 262144;
 
-// Room for the longest sheet, 166 lines of 45 bytes; the coach's lines have at most 3,000.
-const SHEET: usize = 7470;
+// Room for every answer: the lines of 165 items have at most 100 bytes each, a sheet has at most 7,470 bytes, and the coach's lines have 3,000.
+const OUT: usize = 16500;
 
 // Zeros. Where they are made in a function of their own, no other proof has the list of them before it.
 fn room() -> [u8; ROOM]
@@ -67,6 +67,7 @@ fn answer(text: &[u8]) {
 fn reply_to(command: Command, text: &[u8], out: &mut [u8]) -> Reply {
     match command {
         Command::Coach => desk::coach(text, out),
+        Command::Read => desk::read(text, out),
         _ => desk::judge(text, out),
     }
 }
@@ -84,7 +85,7 @@ fn run(command: Command, fd: i32, name: &[u8]) {
         return;
     }
     let n = got.size;
-    let mut out = [0u8; SHEET];
+    let mut out = [0u8; OUT];
     let reply = reply_to(command, &text[..n], &mut out);
     match reply {
         Reply::Answer(m) => answer(replies::front(&out, m)),
@@ -103,7 +104,7 @@ fn run_file(command: Command, name: &[u8]) {
 
 fn help() {
     answer(
-        b"judge [COMMAND] [FILE]\n\nsheet   judges a situation and prints its sheet; where no command is given, this one\ncoach   tells for each player that does not stand legally which rule it breaks, a line each\nhelp    prints this text\n\nWithout a file, or where it is -, standard input is read. A file that has a command's name is written ./sheet.\n",
+        b"judge [COMMAND] [FILE]\n\nsheet   judges a situation and prints its sheet; where no command is given, this one\ncoach   tells for each player that does not stand legally which rule it breaks, a line each\nread    reads a sheet and tells what each of its lines says, a line each\nhelp    prints this text\n\nWithout a file, or where it is -, standard input is read. A file that has a command's name is written ./sheet.\n",
     );
 }
 

@@ -55,7 +55,7 @@ finished-field n f fs buffer = go (allDigits f) (isSmall (valueOf f))
     go true true = ap (λ (k : ℕ). (readingFrom (n + 1) fs, sets (set buffer n (valueOf f)) k (numbersIn fs))) (sym (add-one n))
 
 -- ---- a value that is too large stays so
-value-grows : (v : ℕ) (f : List ℕ) → v ≤ valueFrom v f
+pub value-grows : (v : ℕ) (f : List ℕ) → v ≤ valueFrom v f
 unfolding valueFrom
 value-grows v [] = omega arith
 value-grows v (b ∷ f) = omega (arith, value-grows (10 * v + (b - 48)) f)

@@ -1,3 +1,4 @@
 mod Signed
 mod EntryLaws
 mod PlaceLaws
+mod ReadLaws

@@ -19,6 +19,11 @@ use Rattle.columns.specs.Columns.{wordsWithin, isSituation}
 use Rattle.words.specs.Words.{sideOf, situationOf}
 use Rattle.call.specs.Call.{sheetAnswer, sheetAfter}
 use Rattle.coach.specs.Coach.{sentenceAnswer, sentenceAfter}
+use Rattle.reading.specs.Reading.{sheetRead, numbersRead}
+use Rattle.reading.specs.declared.SheetRead.{SheetRead}
+use Rattle.reading.specs.declared.SheetRead.the-variants.{NotRead, Lines}
+use Rattle.reading.specs.declared.LineRead.{LineRead}
+use Rattle.reading.specs.declared.LineRead.the-variants.{RefusedLine, NoSuchLine, LineOf}
 use Rattle.sheet.specs.declared.text.SheetAnswer.{SheetAnswer}
 use Rattle.sheet.specs.declared.text.SheetAnswer.the-variants.{Refused, Written}
 
@@ -88,6 +93,36 @@ placeNumber ws xs ys lent = cond (isPlaceAsked ws lent) (placedNumber (answerOf 
 -- the lent words after the call: beside a refusal there is no place
 unfoldable pub placeAfter : List ℕ → List Float → List Float → List ℕ → List ℕ
 placeAfter ws xs ys place = cond (isPlaceAsked ws (length place)) (fronted (placeWords (answerOf (situationOf ws) xs ys .decision .place)) place) place
+
+-- ---- reading a sheet
+-- of what is read of it
+abbrev pub linesNumber : SheetRead → ℤ
+linesNumber (NotRead n) = minus n
+linesNumber (Lines n) = pos n
+
+-- of a text
+unfoldable pub readNumber : List ℕ → ℤ
+readNumber text = linesNumber (sheetRead text)
+
+-- of what is read of a line: 1, or 0 where there is none
+abbrev pub lineNumber : LineRead → ℤ
+lineNumber (RefusedLine n) = minus n
+lineNumber NoSuchLine = pos 0
+lineNumber (LineOf r) = pos 1
+
+-- the four words of an item, none without one
+abbrev pub lineWords : LineRead → List ℕ
+lineWords (RefusedLine n) = []
+lineWords NoSuchLine = []
+lineWords (LineOf r) = r .kind ∷ r .side ∷ r .number ∷ r .value ∷ []
+
+-- of a text, the line that is asked for and the number of words lent, of which there must be four
+unfoldable pub itemNumber : List ℕ → ℕ → ℕ → ℤ
+itemNumber text line lent = cond (leb 4 lent) (lineNumber (numbersRead text line)) (minus 100)
+
+-- the lent words after the call: those of the item at their front
+unfoldable pub itemAfter : List ℕ → ℕ → List ℕ → List ℕ
+itemAfter text line item = cond (leb 4 (length item)) (fronted (lineWords (numbersRead text line)) item) item
 
 -- ---- the candidates
 -- how many candidates there are; none means a refusal

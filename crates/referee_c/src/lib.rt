@@ -16,6 +16,8 @@ ghost use Rattle.sheet.specs.Sheet.{bytesIn};
 ghost use Rattle.referee_c.specs.Entries as Spec;
 use columns::layout::WORDS;
 use game::Placement;
+use reading::LineRead;
+use reading::SheetRead;
 use sheet::SheetAnswer;
 
 // A refusal as its number below 0.
@@ -162,6 +164,50 @@ pub extern "C" fn referee_place<'a>(
         return write_place(p, place);
     }
     minus(100)
+}
+
+// Whether the bytes are a sheet: how many lines follow its header, or a refusal. No floats are computed with.
+#[no_mangle]
+pub extern "C" fn referee_read_sheet(text: &[u8]) -> i64
+    ensures { λ r. ⌜ r ≡ Spec.readNumber (now (text .entry)) ⌝ }
+{
+    let read = reading::read_sheet(text);
+    match read {
+        SheetRead::NotRead(n) => minus(n),
+        SheetRead::Lines(n) => n as i64,
+    }
+}
+
+// Stores the numbers of a line in the first four of the lent words, where there is one.
+fn write_item(found: LineRead, item: &mut [u32]) -> i64
+    requires { ⌜ 4 ≤ length (now item) ⌝ }
+    ensures { λ r. ⌜ r ≡ Spec.lineNumber found ⌝ }
+    ensures { λ _. ⌜ now (item .exit) ≡ fronted (Spec.lineWords found) (now (item .entry)) ⌝ }
+{
+    match found {
+        LineRead::RefusedLine(n) => minus(n),
+        LineRead::NoSuchLine => 0,
+        LineRead::LineOf(row) => {
+            item[0] = row.kind;
+            item[1] = row.side;
+            item[2] = row.number;
+            item[3] = row.value;
+            1
+        }
+    }
+}
+
+// Reads the item of a line after the header, from 1, into the first four of the lent words. Answers 1, 0 where there is no such line, or a refusal. No floats are computed with.
+#[no_mangle]
+pub extern "C" fn referee_read_item(text: &[u8], line: u64, item: &mut [u32]) -> i64
+    ensures { λ r. ⌜ r ≡ Spec.itemNumber (now (text .entry)) line (length (now (item .entry))) ⌝ }
+    ensures { λ _. ⌜ now (item .exit) ≡ Spec.itemAfter (now (text .entry)) line (now (item .entry)) ⌝ }
+{
+    if item.len() < 4 {
+        return minus(100);
+    }
+    let found = reading::read_line(text, line as usize);
+    write_item(found, item)
 }
 
 // Fills the front of the lent list with the candidates. Answers how many there are, or a refusal.

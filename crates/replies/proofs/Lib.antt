@@ -1,4 +1,4 @@
-mod Decimal
+pub mod Decimal
 pub mod Pieces
 mod Texts
 pub mod Places

@@ -128,7 +128,7 @@ fn number_at(numbers: &[u32], i: usize) -> u32
 }
 
 // Writes a text, and answers its length. 0, and nothing is written, where the lent bytes are too few.
-fn told(text: &[u8], out: &mut [u8]) -> usize
+pub fn told(text: &[u8], out: &mut [u8]) -> usize
     ensures { λ r. ⌜ r ≡ Spec.writtenIn (now (text .entry)) (now (out .entry)) ⌝ }
     ensures { λ _. ⌜ now (out .exit) ≡ Spec.lineIn (now (text .entry)) (now (out .entry)) ⌝ }
 {

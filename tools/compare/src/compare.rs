@@ -458,7 +458,7 @@ pub fn bisect(random: &mut Random, tally: &mut Tally) {
 }
 
 /// The situations of a turn: one of the class that has its turn, and sometimes one more with zeros where a place comes from.
-fn drawn(random: &mut Random, turn: u64) -> Vec<(String, Situation)> {
+pub fn drawn(random: &mut Random, turn: u64) -> Vec<(String, Situation)> {
     let class = CLASSES[(turn % CLASSES.len() as u64) as usize];
     let mut drawn = vec![(format!("{class:?}"), generate::situation(random, class))];
     // Seven and the number of the classes have no factor in common, so that each class has zeros.

@@ -33,6 +33,8 @@ unsafe extern "C" {
         place: *mut u32,
         place_len: usize,
     ) -> i64;
+    fn referee_read_sheet(text: *const u8, text_len: usize) -> i64;
+    fn referee_read_item(text: *const u8, text_len: usize, line: u64, item: *mut u32, item_len: usize) -> i64;
     fn referee_check(words: *const u32, words_len: usize) -> i64;
     fn referee_candidates(start: f32, min: f32, max: f32, step: f32, list: *mut f32, list_len: usize) -> i64;
     fn referee_hypot(x: f32, y: f32) -> f32;
@@ -94,6 +96,27 @@ pub fn place_fresh(words: &[u32], xs: &[f32], ys: &[f32], lent: &mut Vec<u32>, r
     unsafe {
         let n = referee_place(words.as_ptr(), words.len(), xs.as_ptr(), xs.len(), ys.as_ptr(), ys.len(), lent.as_mut_ptr(), room);
         lent.set_len(if n == 1 { room.min(5) } else { 0 });
+        n
+    }
+}
+
+pub fn read_sheet(text: &[u8]) -> i64 {
+    // SAFETY: as of the sheet.
+    unsafe { referee_read_sheet(text.as_ptr(), text.len()) }
+}
+
+pub fn read_item(text: &[u8], line: u64, item: &mut [u32]) -> i64 {
+    // SAFETY: as of the sheet.
+    unsafe { referee_read_item(text.as_ptr(), text.len(), line, item.as_mut_ptr(), item.len()) }
+}
+
+/// The same with `room` words of the vector's capacity, which hold nothing yet; the vector then holds what was written.
+pub fn read_item_fresh(text: &[u8], line: u64, lent: &mut Vec<u32>, room: usize) -> i64 {
+    assert!(lent.is_empty() && room <= lent.capacity());
+    // SAFETY: as of the sheet; beside the answer 1, and no other, four words are written.
+    unsafe {
+        let n = referee_read_item(text.as_ptr(), text.len(), line, lent.as_mut_ptr(), room);
+        lent.set_len(if n == 1 { room.min(4) } else { 0 });
         n
     }
 }

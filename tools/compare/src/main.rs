@@ -12,6 +12,7 @@ mod leaves;
 mod library;
 mod memory;
 mod place;
+mod reading;
 mod records;
 mod refusals;
 mod situation;
@@ -60,6 +61,10 @@ compare memory [COUNT] [SEED]      calls the entries for valgrind
 compare stack [COUNT] [SEED]       measures the stack that a call takes
 compare slips [COUNT] [SEED]       looks for a situation that shows each slip, COUNT at most
 compare coach-slips [COUNT] [SEED] the same for the slips in the coach's lines
+compare read [COUNT] [SEED]        compares referee_read_sheet and referee_read_item, texts of COUNT situations (100000) of the seed (1)
+compare read-slips [COUNT] [SEED]  the same with slips in the reader that they are compared with
+compare read-cases                 reads a list of texts with their answers from standard input
+compare read-bench [COUNT] [SEED]  times reading the longest sheet of COUNT situations (100000) beside making it
 compare records [SEED]             writes the list that the program replay reads, of the seed (1), and what it covers to standard error
 compare replay                     reads such a list and asks the oracle again
 ";
@@ -88,6 +93,10 @@ fn main() {
         "judge" => compare::judge(),
         "until" => compare::until(number(0, 100_000), number(1, 1)),
         "slips" => compare::try_slips(number(0, 100_000), number(1, 1)),
+        "read" => reading::run(number(0, 100_000), number(1, 1)),
+        "read-slips" => reading::try_slips(number(0, 20_000), number(1, 1)),
+        "read-cases" => reading::cases(),
+        "read-bench" => reading::bench::run(number(0, 100_000), number(1, 1)),
         "records" => records::write(number(0, 1)),
         "replay" => records::replay(),
         _ => usage(),

@@ -5,6 +5,7 @@ use crate::coach::{self, Judged, Table};
 use crate::generate::{self, CLASSES};
 use crate::library::Asked;
 use crate::random::Random;
+use crate::reading::{self, reader};
 use crate::situation::{Situation, WORDS};
 use crate::{compare, exact_build, library, place, refusals};
 
@@ -78,6 +79,27 @@ fn places(s: &Situation) -> bool {
         && call_place(&words[1..], s, place::WORDS, (-100, None))
 }
 
+/// Reads a text, and an item of it into `room` fresh words. Says whether the entries answer as the reader does and write exactly the item.
+fn call_reading(text: &[u8], line: u64, room: usize) -> bool {
+    let answer = reader::Reader::default().read(text);
+    let text: Box<[u8]> = text.into();
+    let mut lent: Vec<u32> = Vec::with_capacity(room);
+    let told = (library::read_item_fresh(&text, line, &mut lent, room), lent);
+    let (number, row) = reader::item(&answer, line, room);
+    library::read_sheet(&text) == reading::count(&answer) && told == (number, row.map_or(Vec::new(), Vec::from))
+}
+
+/// The sheet of the situation, some changed ones and the sheet without its last byte: the first item, the last and none, with exact room and with one word too few. What is
+/// drawn here has a seed of its own.
+fn readings(s: &Situation, turn: u64) -> bool {
+    let mut texts = reading::texts_of(&mut Random::new(turn), s);
+    texts.extend(texts.first().map(|sheet| sheet[..sheet.len() - 1].to_vec()));
+    texts.iter().all(|text| {
+        let last = (text.len() / reader::LINE) as u64;
+        [0, 1, last.saturating_sub(1), last].into_iter().all(|line| call_reading(text, line, reader::WORDS)) && call_reading(text, 1, reader::WORDS - 1)
+    })
+}
+
 /// The candidates' entry with exact room and one place too few, and the leaves.
 fn others(random: &mut Random) -> bool {
     let mut draw = |low, high| random.within(low, high) as f32 / 64.0;
@@ -100,9 +122,9 @@ pub fn run(count: u64, seed: u64) -> bool {
     let mut differences = 0u64;
     for turn in 0..count {
         let s = generate::situation(&mut random, CLASSES[turn as usize % CLASSES.len()]);
-        let agree = [sheets(&s, &mut random), others(&mut random), lines(&table, &s), places(&s)];
+        let agree = [sheets(&s, &mut random), others(&mut random), lines(&table, &s), places(&s), readings(&s, turn)];
         differences += agree.into_iter().filter(|agrees| !agrees).count() as u64;
     }
-    println!("memory: {count} situations, four calls of the sheet, two of the candidates, up to five of the coach and five of the place for each, {differences} differences");
+    println!("memory: {count} situations, four calls of the sheet, two of the candidates, up to five of the coach, five of the place and readings of up to five texts for each, {differences} differences");
     differences == 0
 }

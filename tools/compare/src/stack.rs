@@ -1,10 +1,11 @@
-//! The command `stack`: how many bytes of stack a call of the sheet's entry takes, one of the coach's and one of the place's. The call runs on a stack of its own that was
-//! filled with a pattern before; what is no longer the pattern was used. A use that happens to write the pattern at the far end would not be seen.
+//! The command `stack`: how many bytes of stack a call of the sheet's entry takes, one of the coach's, one of the place's and one of each that reads a sheet. The call runs on a
+//! stack of its own that was filled with a pattern before; what is no longer the pattern was used. A use that happens to write the pattern at the far end would not be seen.
 
 use crate::exact_build::oracle::settled;
 use crate::generate::{self, CLASSES};
 use crate::library::{self, Asked};
 use crate::random::Random;
+use crate::reading::{self, reader};
 use crate::refusals;
 use crate::situation::Situation;
 use std::arch::asm;
@@ -18,6 +19,8 @@ struct Call<'a> {
     ys: &'a [f32],
     sheet: &'a mut [u8],
     place: &'a mut [u32],
+    /// The situation's sheet, empty where it is refused; the first words of `place` are lent for its last item.
+    text: &'a [u8],
     /// The player that the coach's entry is asked for.
     asked: Asked,
     answer: i64,
@@ -39,6 +42,19 @@ extern "C" fn run_place(call: *mut Call) {
     // SAFETY: as above.
     let call = unsafe { &mut *call };
     call.answer = library::place(call.words, call.xs, call.ys, call.place);
+}
+
+extern "C" fn run_read(call: *mut Call) {
+    // SAFETY: as above.
+    let call = unsafe { &mut *call };
+    call.answer = library::read_sheet(call.text);
+}
+
+extern "C" fn run_item(call: *mut Call) {
+    // SAFETY: as above.
+    let call = unsafe { &mut *call };
+    let last = (call.text.len() / reader::LINE).saturating_sub(1) as u64;
+    call.answer = library::read_item(call.text, last, call.place);
 }
 
 extern "C" fn run_nothing(_: *mut Call) {}
@@ -69,13 +85,15 @@ pub fn run(count: u64, seed: u64) -> bool {
     let mut stack = vec![0; SIZE];
     let mut sheet = vec![0; 7470];
     let mut place = [0; 5];
-    let entries: [(&str, extern "C" fn(*mut Call)); 3] = [("sheet", run_call), ("coach", run_coach), ("place", run_place)];
-    let (mut most, mut least) = ([0; 3], [usize::MAX; 3]);
+    let entries: [(&str, extern "C" fn(*mut Call)); 5] =
+        [("sheet", run_call), ("coach", run_coach), ("place", run_place), ("reading of a sheet", run_read), ("reading of an item", run_item)];
+    let (mut most, mut least) = ([0; 5], [usize::MAX; 5]);
     for turn in 0..count {
         let s = generate::situation(&mut random, CLASSES[turn as usize % CLASSES.len()]);
         let words = s.to_words(None);
+        let text = reading::sheet(&s).unwrap_or_default();
         let mut call =
-            Call { words: &words, xs: &s.xs, ys: &s.ys, sheet: &mut sheet, place: &mut place, asked: asked(&s), answer: 0 };
+            Call { words: &words, xs: &s.xs, ys: &s.ys, sheet: &mut sheet, place: &mut place, text: &text, asked: asked(&s), answer: 0 };
         let nothing = on_stack(&mut stack, run_nothing, &mut call);
         for (i, (_, entry)) in entries.into_iter().enumerate() {
             let used = on_stack(&mut stack, entry, &mut call) - nothing;

@@ -1,0 +1,4 @@
+mod Values
+mod Lengths
+pub mod ItemLines
+mod Cases
