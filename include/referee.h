@@ -53,7 +53,8 @@ extern "C" {
 int64_t referee_check(const uint32_t *words, size_t words_len);
 
 /* Decides on the situation that the words are, with the earlier places xs and ys of the batch, and writes its sheet at the front of the lent bytes; the bytes
- * after it are kept. On lines of kind 7, 8 and 9 a zero of either sign is 0. Answers the number of bytes written, or -n for the refusal n (1 to 5, then 7), or REFEREE_MALFORMED, or
+ * after it are kept. A line of kind 4 names a player whose near edge is past the edge of the carpet by more than its allowance: as far as its centre is past it, along x or y, less its
+ * radius. On lines of kind 7, 8 and 9 a zero of either sign is 0. Answers the number of bytes written, or -n for the refusal n (1 to 5, then 7), or REFEREE_MALFORMED, or
  * REFEREE_OTHER_FLOAT_MODE; where the answer is below 0 nothing is written. */
 int64_t referee_sheet(const uint32_t *words, size_t words_len, const float *xs, size_t xs_len, const float *ys, size_t ys_len, uint8_t *sheet,
                       size_t sheet_len);

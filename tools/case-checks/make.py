@@ -9,7 +9,8 @@ Expected values are document 01's: case A and its lines under 'The sheet', the c
 and the table of refusals. What is printed for an input that is no situation was worked out by hand from the layout
 of an input; the coach's lines, document 02's first request, from the original's rules.rs and the words of
 docs/COACH.md; the places with zeros, its second request, from the original's lib.rs; the texts that are read, its third
-request, from its own words (readings.py). Nothing of the project is run.
+request, from its own words (readings.py); who leaves the field, its fourth request, from its words and the original's
+carpet_excess. Nothing of the project is run.
 
 README.md has the form of a record. A situation is words of 32 bits; a float is its bit pattern. tools/words/layout.py
 has where each run of words begins; PLACES has the words that cases change, by name. Players are in the order Home 1
@@ -86,12 +87,12 @@ def player_name(side, number):
 
 
 def player_places(side, number):
-    """The words of a player's pose and penalty, by name; that which says whether the player is present has the player's name alone."""
+    """The words of a player's pose, penalty and allowance, by name; that which says whether the player is present has the player's name alone."""
     k = place(side, number)
     at = AT["POSES"] + layout.POSE_WORDS * k
     name = player_name(side, number)
     pose_words = {name: at, f"{name} x": at + 1, f"{name} y": at + 2, f"{name} theta": at + 3, f"{name} radius": at + 4}
-    return {**pose_words, f"{name} penalty": AT["PENALTIES"] + k}
+    return {**pose_words, f"{name} penalty": AT["PENALTIES"] + k, f"{name} allowance": AT["ALLOWANCES"] + k}
 
 
 # the words that cases change, by name
@@ -108,7 +109,6 @@ PLACES = {
     "home goalkeeper": AT["GOALKEEPERS"],
     "away goalkeeper": AT["GOALKEEPERS"] + 1,
     **{name: at for side in (HOME, AWAY) for number in range(1, 21) for name, at in player_places(side, number).items()},
-    "away 20 allowance": AT["ALLOWANCES"] + place(AWAY, 20),
     "home 2 inside": AT["PREVIOUSLY_INSIDE"] + place(HOME, 2),
     "home 3 inside": AT["PREVIOUSLY_INSIDE"] + place(HOME, 3),
     "home 4 inside": AT["PREVIOUSLY_INSIDE"] + place(HOME, 4),
@@ -339,6 +339,63 @@ def keeper_places():
         keeper("heading above 0, y -0", -0.0, ABOVE_0, (0, 1)),
         keeper("heading below -0, y below -0", BELOW_0, BELOW_0, (2147483649, 2147483649)),
     ]
+
+
+# Document 02's fourth request: what carpet_excess gives for the centre, less the radius, must be above the allowance. On the field of A the carpet ends at x 7 + 1 = 8 and y 4.5 + 1 = 5.5.
+
+
+def leaving(name, edits, *who):
+    """A case in which these players leave the field, and nothing else is on the sheet."""
+    return written(f"near edge, {name}", BARE_FIELD, edits, [(0, 2, len(who), 1), *((4, side, number, 0) for side, number in who)])
+
+
+def near_edge():
+    """Of radius 0.25 a player is 8.25 - 8 - 0.25 = 0 past the end at x 8.25, and 5.75 - 5.5 - 0.25 = 0 past the side at y 5.75: not above the allowance 0, and one float farther it is. At the
+    corner the greater of both decides. Of radius 1 it is x 9. With the allowance 0.5 it is x 8.75, where 0.75 - 0.25 = 0.5, and with -0.5 it is x 7.75, where -0.25 - 0.25 = -0.5."""
+    two = (HOME, 2)
+
+    def at_2(x, y=0.0, radius=0.25):
+        return stands(*two, x, y, radius)
+
+    cases = [
+        leaving("x 8.25", at_2(8.25)),
+        leaving("x above 8.25", at_2(farther(8.25)), two),
+        leaving("x -8.25", at_2(-8.25)),
+        leaving("x below -8.25", at_2(farther(-8.25)), two),
+        leaving("y 5.75", at_2(0.0, 5.75)),
+        leaving("y above 5.75", at_2(0.0, farther(5.75)), two),
+        leaving("y -5.75", at_2(0.0, -5.75)),
+        leaving("y below -5.75", at_2(0.0, farther(-5.75)), two),
+        leaving("corner (8.25, 5.75)", at_2(8.25, 5.75)),
+        leaving("corner, x above 8.25", at_2(farther(8.25), 5.75), two),
+        leaving("corner, y above 5.75", at_2(8.25, farther(5.75)), two),
+        leaving("corner (-8.25, -5.75)", at_2(-8.25, -5.75)),
+        leaving("corner, y below -5.75", at_2(-8.25, farther(-5.75)), two),
+        leaving("radius 1, x 9", at_2(9.0, 0.0, 1.0)),
+        leaving("radius 1, x above 9", at_2(farther(9.0), 0.0, 1.0), two),
+    ]
+    for allowance, x in ((0.5, 8.75), (-0.5, 7.75)):
+        cases.append(leaving(f"allowance {allowance}, x {x}", {**at_2(x), "home 2 allowance": allowance}))
+        cases.append(leaving(f"allowance {allowance}, x above {x}", {**at_2(farther(x)), "home 2 allowance": allowance}, two))
+    return cases + near_edge_rounded() + near_edge_of_several()
+
+
+def near_edge_rounded():
+    """In units of 2^-27, 0x4101999a is 8 and 13421824 of them, and 0x3dcccccd 13421773: as x and radius they are 51 apart after the 8, and the player leaves. Floats about x are 128 of these units
+    apart, so that 8 and the radius together are rounded to x: with the radius added to the edge first the player would not leave. One float nearer it is 51 - 128 = -77."""
+    x, radius = 0x4101_999A, 0x3DCC_CCCD
+    return [
+        leaving("x of 0x4101999a, radius of 0x3dcccccd", stands(HOME, 2, x, 0.0, radius), (HOME, 2)),
+        leaving("x of 0x41019999, radius of 0x3dcccccd", stands(HOME, 2, x - 1, 0.0, radius)),
+    ]
+
+
+def near_edge_of_several():
+    """Both sides, with the ends exchanged; a penalised player and one whose foot is on the carpet do not leave. The lines are in the order of the players."""
+    home = {**stands(HOME, 2, farther(8.25), 0.0), **stands(HOME, 3, 8.25, 1.0), **stands(HOME, 20, 0.0, farther(-5.75))}
+    away = {**stands(AWAY, 1, farther(-8.25), 0.0), **stands(AWAY, 4, -9.0, 0.0), **stands(AWAY, 20, -8.25, farther(5.75))}
+    edits = {"sides": RIGHT, **home, **away, "away 4 penalty": layout.PENALTY_PUSHING}
+    return [leaving("both sides", edits, (HOME, 2), (HOME, 20), (AWAY, 1), (AWAY, 20))]
 
 
 # ---- document 01's refusals 1 to 5, each with a near miss; 6 is among the vectors of tools/leaf-vectors, 7 alone above ----
@@ -956,7 +1013,7 @@ def main():
     """Writes the files, compares them, or prints the names."""
     assert len(A) == layout.WORDS and set(CASE_A) <= set(AT), len(A)
     cases = whole() + in_set() + goal_line() + touchline() + placements() + kick_off()
-    cases += free_kick_places() + keeper_places()
+    cases += free_kick_places() + keeper_places() + near_edge()
     cases += refusals() + several() + inputs() + sheets_of_a()
     cases += coach_lines() + coach_room() + coach_numbers() + judged_coach()
     cases += read_sheets()

@@ -5,6 +5,9 @@
 //! the stand-ins, serde's attributes and the derives of absent crates go, and hypot, min and max of f32 become methods of a trait
 //! `Leaves`, which each build supplies. Every rule says how often it must match; if it does not, the build fails.
 //!
+//! One thing is another rule, by request 4 of document 02, in every build: where `carpet_excess` is called, the robot's radius is subtracted from what
+//! it gives. The function itself stays as it is.
+//!
 //! A second text has each test of docs/COACH.md record its number where it holds (src/told.rs), and changes nothing else: it serves the
 //! coach's lines alone, so that what is timed and what mutants.py edits is as it was.
 //!
@@ -76,6 +79,9 @@ fn oracle(folder: &Path, out: &Path) {
     rules.replace(".max(", ".leaf_max(", 1);
     rules.absent("f32::min");
     rules.absent("f32::max");
+    // Request 4, at both calls of `carpet_excess`; the other text of its name is where it stands.
+    rules.counted("carpet_excess(", 2);
+    rules.replace("carpet_excess(&pose, field) > allowance", "carpet_excess(&pose, field) - pose.radius > allowance", 1);
     write("rules.rs", &rules.text);
 
     let mut lib = read("game_controller_autoreferee/src/lib.rs");
@@ -92,6 +98,12 @@ fn oracle(folder: &Path, out: &Path) {
     lib.replace(".max(0.0)", ".leaf_max(0.0)", 2);
     lib.counted(".max(", 1);
     lib.counted(".max(since)", 1);
+    lib.counted("carpet_excess(", 1);
+    lib.replace(
+        "rules::carpet_excess(&pose, &self.config.field).leaf_max(0.0)",
+        "(rules::carpet_excess(&pose, &self.config.field) - pose.radius).leaf_max(0.0)",
+        1,
+    );
     let with_rules = |lib: &Text, file: &str| {
         let mut lib = lib.clone();
         let module = format!("mod rules {{ include!(concat!(env!(\"OUT_DIR\"), \"/{file}\")); }}");
@@ -165,7 +177,12 @@ fn slips(lib: &mut Text, rules: &mut Text) {
     rules.replace("saturating_sub(MAX_PLAYERS_IN_GOAL_AREA)", "saturating_sub(crate::slips::most_players(MAX_PLAYERS_IN_GOAL_AREA))", 1);
     rules.replace("m.opponent_penalty_area > 0.0", "crate::slips::in_penalty_area(m.opponent_penalty_area)", 2);
     rules.replace("team_x > -(field.line_width * 0.5 + r)", "crate::slips::in_half(team_x, -(field.line_width * 0.5 + r))", 1);
-    rules.replace("carpet_excess(&pose, field) > allowance", "crate::slips::leaves(carpet_excess(&pose, field), allowance)", 1);
+    rules.replace(
+        "carpet_excess(&pose, field) - pose.radius > allowance",
+        "crate::slips::leaves(crate::slips::near_edge(carpet_excess(&pose, field), [pose.x, pose.y], \
+         [field.length, field.width].map(|size| size * 0.5 + field.border_strip_width), pose.radius), allowance)",
+        1,
+    );
     rules.replace("pose.y.abs() <= field.goal_width * 0.5", "crate::slips::between_posts(pose.y.abs(), field.goal_width * 0.5)", 1);
     rules.replace("towards_halfway_line <= max", "crate::slips::up_to(towards_halfway_line, max)", 1);
     rules.replace(

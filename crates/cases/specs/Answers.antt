@@ -4,6 +4,7 @@ use Prim.Native.Nat.{ℕ, _+_}
 use lib.ListN.{replicate}
 use lib.Ieee.{Float}
 use Rattle.game.specs.declared.BallJudgment.{BallJudgment}
+use Rattle.game.specs.declared.BallJudgment.the-variants.{NoJudgment}
 use Rattle.game.specs.declared.KickingPlayer.the-variants.{NoKicker}
 use Rattle.game.specs.declared.MaybeMargins.{MaybeMargins}
 use Rattle.game.specs.declared.MaybeMargins.the-variants.{NoMargins, Known}
@@ -39,20 +40,28 @@ abbrev pub only2 : Positioning → List PlayerVerdict
 only2 v = record { verdict = Legal } ∷ record { verdict = v } ∷ replicate 18 (record { verdict = Legal })
 
 -- ---- answers
--- a side's items where every verdict is Legal, nobody leaves or has moved, and no reference pose is there
-abbrev pub sideWith : PlayerList → SideDecision
-sideWith excess =
+-- a side's items, its excess and who leaves, where every verdict is Legal, nobody has moved, and no reference pose is there
+abbrev pub sideItems : PlayerList → PlayerList → SideDecision
+sideItems excess leaving =
     record {
       verdicts = replicate 20 (record { verdict = Legal });
       excess = excess;
-      leaving = none;
+      leaving = leaving;
       moved = none;
       references = replicate 20 (record { reference = NoReference });
     }
 
+-- the same where nobody leaves
+abbrev pub sideWith : PlayerList → SideDecision
+sideWith excess = sideItems excess none
+
 -- not refused: Home's excess and the ball judgment, no excess of Away, no kicker and no place
 abbrev pub answered : PlayerList → BallJudgment → Answer
 answered excess ball = record { refusal = 0; decision = record { home = sideWith excess; away = sideWith none; kicker = NoKicker; ball = ball; place = NoPlace } }
+
+-- not refused: who of Home leaves, and nothing else
+abbrev pub leavers : PlayerList → Answer
+leavers who = record { refusal = 0; decision = record { home = sideItems none who; away = sideWith none; kicker = NoKicker; ball = NoJudgment; place = NoPlace } }
 
 -- ---- margins
 -- a player's margin to the own goal area, if present, before those of the others

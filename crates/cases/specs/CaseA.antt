@@ -1,10 +1,11 @@
 -- Case A of document 01, its variants, and the situations of the document's other cases. Definitions only.
 use mathlib.Core.Bool.{true, false}
 use mathlib.Core.List.{List, [], _∷_}
+use Prim.Native.Nat.{_^_}
 use lib.Ieee.{Float, binary32, neg, ofBits}
 use lib.ListN.{replicate}
 use Rattle.lists.specs.Put.{fronted}
-use Rattle.floats.specs.Arithmetic.{zero32}
+use Rattle.floats.specs.Arithmetic.{_+₃₂_, zero32}
 use Rattle.game.specs.declared.Ball.{Ball}
 use Rattle.game.specs.declared.MaybeNumber.the-variants.{Number}
 use Rattle.game.specs.declared.MaybeSide.{MaybeSide}
@@ -21,7 +22,7 @@ use Rattle.game.specs.declared.State.{State}
 use Rattle.game.specs.declared.State.the-variants.{Set, Playing}
 use Rattle.game.specs.declared.Team.{Team}
 use Rattle.game.specs.declared.Wish.the-variants.{Nothing, BallAtRestart, ForPenalty, Goalkeeper}
-use Rattle.cases.specs.Field.{_over_, fieldWith, gameIn, playerWith, seenAt, at, absent, team, situationOn, situation}
+use Rattle.cases.specs.Field.{_over_, fieldWith, gameIn, playerWith, seenOf, seenAt, at, absent, team, situationOn, situation}
 
 -- ---- case A
 -- Home: 2 at (6.5, 0), 3 at (6.5, 1), 4 as given, 5 at (6.75, 0.5), and those from 6 on; 2, 3 and 4 were inside
@@ -96,3 +97,24 @@ keeperHeading theta =
 -- -2^-149: of the values below zero the nearest to it
 abbrev pub least : Float
 least = ofBits binary32 2147483649
+
+-- ---- the near edge
+-- Home 2 alone, of this radius, at (x, y), with the ball at the center; its allowance is 0
+abbrev pub reaching : Float → Float → Float → Situation
+reaching radius x y = situation (gameIn Playing NoSetPlay NoSide) (team (absent ∷ playerWith (seenOf radius x y) NoPenalty false ∷ [])) (ballAt zero32 zero32) NoSide Nothing
+
+-- x 8.25, where a robot of radius 0.25 touches the end of the carpet, at 7 + 1, from outside
+abbrev pub atEnd : Float
+atEnd = 33 over 4
+
+-- the next value
+abbrev pub pastEnd : Float
+pastEnd = atEnd +₃₂ 1 over (2 ^ 20)
+
+-- y 5.75, where it touches the side, at 4.5 + 1
+abbrev pub atSide : Float
+atSide = 23 over 4
+
+-- the next value
+abbrev pub pastSide : Float
+pastSide = atSide +₃₂ 1 over (2 ^ 21)

@@ -64,9 +64,13 @@ gameIn state play kicking = record { sides = HomeDefendsLeftGoal; stopped = fals
 abbrev pub playerWith : SeenPose → Penalty → Bool → Player
 playerWith pose penalty was = record { pose = pose; reference = NoReference; penalty = penalty; allowance = zero32; «previously_inside» = was }
 
--- a pose at (x, y), radius 0.25
+-- a pose of this radius at (x, y), heading 0
+abbrev pub seenOf : Float → Float → Float → SeenPose
+seenOf radius x y = Present (record { x = x; y = y; theta = zero32; radius = radius })
+
+-- of radius 0.25
 abbrev pub seenAt : Float → Float → SeenPose
-seenAt x y = Present (record { x = x; y = y; theta = zero32; radius = 1 over 4 })
+seenAt = seenOf (1 over 4)
 
 -- an unpenalised player there, who was not inside
 abbrev pub at : Float → Float → Player

@@ -2,9 +2,9 @@
 -- stands its line of the document, or what is asked. Each claim is of the answer to a situation, or of the leaf or entry that the line names. Definitions only.
 use mathlib.Core.Path.{_≡_}
 use mathlib.Core.List.{[], _∷_, _++_}
-use Prim.Native.Nat.{_^_}
+use Prim.Native.Nat.{_+_, _^_}
 use lib.ListN.{replicate}
-use lib.Ieee.{Float, neg}
+use lib.Ieee.{Float, binary32, neg, ofBits, toBits}
 use Rattle.floats.specs.Arithmetic.{_+₃₂_, _*₃₂_, zero32, half, pi}
 use Rattle.hypot.specs.Hypot.{hypot}
 use Rattle.game.specs.declared.BallJudgment.the-variants.{NoJudgment, Goal, GoalKick, CornerKick, ThrowIn}
@@ -21,8 +21,8 @@ use Rattle.sheet.specs.Sheet.{textOf}
 use Rattle.sheet.specs.declared.text.SheetAnswer.the-variants.{Refused, Written}
 use Rattle.call.specs.Call.{sheetAnswer, sheetAfter}
 use Rattle.cases.specs.Field.{_over_}
-use Rattle.cases.specs.CaseA.{ballAt, withBall, caseA, caseASet, fourAbsent, untouched, throwIn, alone, kickOffIn, freeKick, keeperHeading, least}
-use Rattle.cases.specs.Answers.{only, only2, answered, ownGoalAreas, linesFor, onlyPlace, sheetA}
+use Rattle.cases.specs.CaseA.{ballAt, withBall, caseA, caseASet, fourAbsent, untouched, throwIn, alone, kickOffIn, freeKick, keeperHeading, least, reaching, atEnd, pastEnd, atSide, pastSide}
+use Rattle.cases.specs.Answers.{none, only, only2, answered, leavers, ownGoalAreas, linesFor, onlyPlace, sheetA}
 
 -- every case, each with its claims
 pub record Table : Type 0 where
@@ -80,3 +80,23 @@ pub record Table : Type 0 where
   pub least-x : linesFor (freeKick (1 over 8) least zero32) ≡ onlyPlace 2 0 2147483649 0 1040187392
   pub least-y : linesFor (freeKick (1 over 8) zero32 least) ≡ onlyPlace 2 0 0 2147483649 1040187392
   pub least-heading : linesFor (keeperHeading least) ≡ onlyPlace 0 1 1088356352 1056964608 2147483649
+  -- Request 4. On the field of A with radius 0.25 and allowance 0: x 8.25 is not leaving, and the next value is.
+  pub at-end : answerOf (reaching (1 over 4) atEnd zero32) [] [] ≡ leavers none
+  pub past-end : answerOf (reaching (1 over 4) pastEnd zero32) [] [] ≡ leavers (only 2)
+  pub end-next : toBits binary32 pastEnd ≡ 1 + toBits binary32 atEnd
+  -- y 5.75 and the next value.
+  pub at-side : answerOf (reaching (1 over 4) zero32 atSide) [] [] ≡ leavers none
+  pub past-side : answerOf (reaching (1 over 4) zero32 pastSide) [] [] ≡ leavers (only 2)
+  pub side-next : toBits binary32 pastSide ≡ 1 + toBits binary32 atSide
+  -- The same negated.
+  pub at-other-end : answerOf (reaching (1 over 4) (neg atEnd) zero32) [] [] ≡ leavers none
+  pub past-other-end : answerOf (reaching (1 over 4) (neg pastEnd) zero32) [] [] ≡ leavers (only 2)
+  pub at-other-side : answerOf (reaching (1 over 4) zero32 (neg atSide)) [] [] ≡ leavers none
+  pub past-other-side : answerOf (reaching (1 over 4) zero32 (neg pastSide)) [] [] ≡ leavers (only 2)
+  -- A corner: the greater of x and y decides, and not the distance from the corner, which is 0.35 at (8.25, 5.75).
+  pub at-corner : answerOf (reaching (1 over 4) atEnd atSide) [] [] ≡ leavers none
+  pub corner-past-end : answerOf (reaching (1 over 4) pastEnd atSide) [] [] ≡ leavers (only 2)
+  pub corner-past-side : answerOf (reaching (1 over 4) atEnd pastSide) [] [] ≡ leavers (only 2)
+  -- x of the pattern 0x4101999a and the radius of 0x3dcccccd, about 8.1 and 0.1: leaving. With the radius added to the edge first, 8 + 0.1 is rounded to x, and it would not be.
+  pub rounded-last : answerOf (reaching (ofBits binary32 0x3dcccccd) (ofBits binary32 0x4101999a) zero32) [] [] ≡ leavers (only 2)
+  pub edge-would-be : (8 over 1) +₃₂ ofBits binary32 0x3dcccccd ≡ ofBits binary32 0x4101999a

@@ -75,17 +75,17 @@ computeMargins t f sign = table 20 (λ i. playerMargins (playerAt t i) f sign)
 abbrev pub isOutsideField : PlayerPose → FieldDimensions → Bool
 isOutsideField p f = lt (f .length *₃₂ half +₃₂ p .radius) (abs (p .x)) || lt (f .width *₃₂ half +₃₂ p .radius) (abs (p .y))
 
--- how far the centre of a player is beyond the edge of the carpet, below 0 if it is inside
+-- how far the near edge of a player is beyond the edge of the carpet, below 0 if it is inside: how far the centre is, along x or y, and then less the radius
 abbrev pub carpetExcess : PlayerPose → FieldDimensions → Float
 carpetExcess p f =
-    maximumNumber (abs (p .x) -₃₂ (f .length *₃₂ half +₃₂ f .«border_strip_width»)) (abs (p .y) -₃₂ (f .width *₃₂ half +₃₂ f .«border_strip_width»))
+    maximumNumber (abs (p .x) -₃₂ (f .length *₃₂ half +₃₂ f .«border_strip_width»)) (abs (p .y) -₃₂ (f .width *₃₂ half +₃₂ f .«border_strip_width»)) -₃₂ p .radius
 
--- the pose is there, and beyond the carpet's edge by more than the allowance
+-- the pose is there, and its near edge is beyond the carpet's edge by more than the allowance
 abbrev pub seenLeaving : SeenPose → FieldDimensions → Float → Bool
 seenLeaving Absent f allowance = false
 seenLeaving (Present p) f allowance = lt allowance (carpetExcess p f)
 
--- an unpenalised player that is off the carpet by more than the allowance
+-- an unpenalised player whose near edge is off the carpet by more than the allowance
 abbrev pub isLeavingTheField : Player → FieldDimensions → Float → Bool
 isLeavingTheField player f allowance = isUnpenalized (player .penalty) && seenLeaving (player .pose) f allowance
 

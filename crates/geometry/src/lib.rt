@@ -109,16 +109,18 @@ pub fn is_outside_field(pose: PlayerPose, field: FieldDimensions) -> bool
     (x > field.length * 0.5 + pose.radius) | (y > field.width * 0.5 + pose.radius)
 }
 
-// How far the centre of a player is beyond the edge of the carpet, below 0 if it is inside.
+// How far the near edge of a player is beyond the edge of the carpet, below 0 if it is inside. The original measures at the centre; the radius is taken from what it gives, with
+// a rounding of its own.
 pub fn carpet_excess(pose: PlayerPose, field: FieldDimensions) -> f32
     ensures { λ r. ⌜ r ≡ Spec.carpetExcess pose field ⌝ }
 {
+    let r = pose.radius;
     let x = floats::abs(pose.x) - (field.length * 0.5 + field.border_strip_width);
     let y = floats::abs(pose.y) - (field.width * 0.5 + field.border_strip_width);
-    floats::max(x, y)
+    floats::max(x, y) - r
 }
 
-// Whether an unpenalised player is off the carpet by more than the allowance.
+// Whether the near edge of an unpenalised player is off the carpet by more than the allowance.
 pub fn is_leaving_the_field(player: Player, field: FieldDimensions, allowance: f32) -> bool
     ensures { λ r. ⌜ r ≡ Spec.isLeavingTheField player field allowance ⌝ }
 {

@@ -1,4 +1,5 @@
-//! Document 01's cases ("Both sides of a line"): the oracle must give what the document says, before it is compared with anything.
+//! Document 01's cases ("Both sides of a line") and those of document 02's request 4: the oracle must give what the documents say, before it is
+//! compared with anything.
 
 use crate::decision::Decision;
 use crate::situation::*;
@@ -20,8 +21,9 @@ impl Case {
     }
 }
 
+const ALL: &[u32] = &[1, 2, 3, 4, 5, 6, 7, 8, 9];
+
 pub fn cases() -> Vec<Case> {
-    const ALL: &[u32] = &[1, 2, 3, 4, 5, 6, 7, 8, 9];
     const PLACE: &[u32] = &[7, 8, 9];
     let mut cases = Vec::new();
     let mut case = |name, situation, kinds, rows| cases.push(Case { name, situation, kinds, rows });
@@ -58,5 +60,34 @@ pub fn cases() -> Vec<Case> {
     s.players[0][1].pose = pose(0.0, 0.25);
     case("kick-off in Set", s.clone(), &[1], vec![[1, 0, 2, 1]]);
     case("kick-off in Playing", Situation { state: PLAYING, ..s }, &[1], vec![[1, 0, 2, 2]]);
+    cases.extend(near_edge());
     cases
+}
+
+/// Home 2 alone about the edge of the carpet, which is at x 8 and y 5.5, with allowance 0. Of radius 0.25 it does not leave at x 8.25 and at
+/// y 5.75, and a float farther it does; at the corner of both the greater decides. 8 + 0.1 would be rounded to the last x.
+fn near_edge() -> impl Iterator<Item = Case> {
+    let (x, y) = (8.25f32, 5.75f32);
+    let (next_x, next_y) = (x.next_up(), y.next_up());
+    [
+        ("near edge, x 8.25", x, 0.0, 0.25, false),
+        ("near edge, the next x", next_x, 0.0, 0.25, true),
+        ("near edge, x -8.25", -x, 0.0, 0.25, false),
+        ("near edge, the next x below", -next_x, 0.0, 0.25, true),
+        ("near edge, y 5.75", 0.0, y, 0.25, false),
+        ("near edge, the next y", 0.0, next_y, 0.25, true),
+        ("near edge, y -5.75", 0.0, -y, 0.25, false),
+        ("near edge, the next y below", 0.0, -next_y, 0.25, true),
+        ("near edge, corner", x, y, 0.25, false),
+        ("near edge, corner, the next x", next_x, y, 0.25, true),
+        ("near edge, corner, the next y", x, next_y, 0.25, true),
+        ("near edge, x of 0x4101999a", f32::from_bits(0x4101_999a), 0.0, f32::from_bits(0x3dcc_cccd), true),
+    ]
+    .into_iter()
+    .map(|(name, x, y, radius, leaves)| {
+        let mut situation = Situation { players: [[NOBODY; PLAYERS]; 2], ball: [0.0, 0.0, 0.125], ..Situation::case_a() };
+        situation.players[0][1].pose = Some(Pose { x, y, theta: 0.0, radius });
+        let rows = if leaves { vec![[4, 0, 2, 0]] } else { vec![] };
+        Case { name, situation, kinds: ALL, rows }
+    })
 }

@@ -474,10 +474,10 @@ pub fn run(count: u64, seed: u64) -> bool {
     let mut tally = Tally::default();
     for case in cases::cases() {
         if !case.holds(&decide(&case.situation)) {
-            println!("the oracle does not give document 01's answer: {}", case.name);
+            println!("the oracle does not give the documents' answer: {}", case.name);
             tally.differences += 1;
         }
-        check(&mut random, &case.situation, "document 01", &mut tally);
+        check(&mut random, &case.situation, "cases", &mut tally);
     }
     for turn in 0..count {
         for (class, s) in drawn(&mut random, turn) {

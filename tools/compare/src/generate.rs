@@ -549,7 +549,7 @@ fn boundary(random: &mut Random) -> Situation {
                     6 => -(half_length - f[PENALTY_MARK_DISTANCE]),
                     7 => half_length - f[LINE_WIDTH] * 0.5 - r,
                     8 => half_length - f[LINE_WIDTH] * 0.5 + r,
-                    _ => (half_length + f[BORDER_STRIP_WIDTH] + allowance) * if random.coin() { 1.0 } else { -1.0 },
+                    _ => (half_length + f[BORDER_STRIP_WIDTH] + allowance + r) * if random.coin() { 1.0 } else { -1.0 },
                 };
                 pose.x = inside_64(moved(own * x, ulps(random)));
             }
@@ -559,7 +559,7 @@ fn boundary(random: &mut Random) -> Situation {
                     0 => f[GOAL_AREA_WIDTH] * 0.5 + r,
                     1 => f[PENALTY_AREA_WIDTH] * 0.5 + r,
                     2 => f[GOAL_WIDTH] * 0.5,
-                    _ => f[WIDTH] * 0.5 + f[BORDER_STRIP_WIDTH] + allowance,
+                    _ => f[WIDTH] * 0.5 + f[BORDER_STRIP_WIDTH] + allowance + r,
                 };
                 pose.y = inside_64(moved(sign * y, ulps(random)));
             }

@@ -170,11 +170,11 @@ fn differs(s: &Situation, slip: usize) -> bool {
     answer != other
 }
 
-/// Document 01's cases; their answers are looked at before any record is made.
+/// The documents' cases; their answers are looked at before any record is made.
 fn add_cases(list: &mut List) -> bool {
     let cases = cases::cases();
     for case in &cases {
-        list.add("document 01", case.name, &case.situation);
+        list.add("cases", case.name, &case.situation);
     }
     cases.iter().all(|case| match compare::exact(&case.situation) {
         compare::Answer::Refused(_) => false,

@@ -1,7 +1,7 @@
-//! Deliberate slips. Each is off unless it is the one that is switched on. Those up to PLACED_WITHOUT_SIGN are in the third build, into
-//! whose text build.rs puts the calls; the others are in the calls of the entries, in the refusals, in the half turn and where a place
-//! becomes rows of the sheet. Those of the coach's lines have a list of their own: they are where the tests record themselves (told.rs)
-//! and where the lines are made (coach.rs).
+//! Deliberate slips. Each is off unless it is the one that is switched on. Those up to PLACED_WITHOUT_SIGN, and from RADIUS_NOT_TAKEN on, are in
+//! the third build, into whose text build.rs puts the calls; the others are in the calls of the entries, in the refusals, in the half turn and
+//! where a place becomes rows of the sheet. Those of the coach's lines have a list of their own: they are where the tests record themselves
+//! (told.rs) and where the lines are made (coach.rs).
 
 use std::cmp::Ordering;
 use std::sync::atomic::{AtomicUsize, Ordering::Relaxed};
@@ -48,9 +48,15 @@ pub const WORD_AFTER_PLACE: usize = 36;
 pub const WORDS_ON_REFUSAL: usize = 37;
 pub const WORDS_WITHOUT_PLACE: usize = 38;
 pub const REFUSAL_BEFORE_LENGTH: usize = 39;
+pub const RADIUS_NOT_TAKEN: usize = 40;
+pub const RADIUS_ADDED: usize = 41;
+pub const RADIUS_HALVED: usize = 42;
+pub const RADIUS_FROM_X_ALONE: usize = 43;
+pub const RADIUS_FROM_Y_ALONE: usize = 44;
+pub const RADIUS_TO_EDGE_FIRST: usize = 45;
 
 /// What each slip does; the first five are document 01's.
-pub const SLIPS: [&str; 40] = [
+pub const SLIPS: [&str; 46] = [
     "squares in f32 compared instead of the rounded distance",
     "the deepest defender named first",
     "the first of equal clearances kept",
@@ -91,6 +97,12 @@ pub const SLIPS: [&str; 40] = [
     "words of a place are written on a refusal",
     "words of a place are written where there is none",
     "a refusal told before the -100 of fewer than five words",
+    "leaving measured at the centre",
+    "the radius added to the excess",
+    "half the radius taken from the excess",
+    "the radius taken from x alone",
+    "the radius taken from y alone",
+    "the radius added to the edge of the carpet first, which rounds elsewhere",
 ];
 
 /// The slips that no sheet can show: what is decided otherwise is the sign of a zero.
@@ -250,6 +262,24 @@ pub fn in_half(x: f32, edge: f32) -> bool {
         x >= edge
     } else {
         x > edge
+    }
+}
+
+/// The excess at the near edge, from that of the centre, the centre, the edges of the carpet and the radius. Both axes less the radius would be
+/// no slip: rounding is monotone, so that the greater of the two stays the greater, or both become equal.
+pub fn near_edge(excess: f32, centre: [f32; 2], edges: [f32; 2], radius: f32) -> f32 {
+    let greater = |from_x: f32, from_y: f32, to_edge: f32| {
+        let past = |i: usize| centre[i].abs() - (edges[i] + to_edge);
+        crate::leaves::max(past(0) - from_x, past(1) - from_y)
+    };
+    match SWITCHED_ON.load(Relaxed) {
+        RADIUS_NOT_TAKEN => excess,
+        RADIUS_ADDED => excess + radius,
+        RADIUS_HALVED => excess - radius * 0.5,
+        RADIUS_FROM_X_ALONE => greater(radius, 0.0, 0.0),
+        RADIUS_FROM_Y_ALONE => greater(0.0, radius, 0.0),
+        RADIUS_TO_EDGE_FIRST => greater(0.0, 0.0, radius),
+        _ => excess - radius,
     }
 }
 
