@@ -7,9 +7,9 @@
  * length 0. Memory that is written to may not overlap what the same call reads.
  *
  * Float mode. What the entries answer is said of IEEE 754's default mode: rounding to nearest, subnormal numbers kept. A program that calls fesetround, sets flush-to-zero or
- * denormals-are-zero, or is linked with -ffast-math, runs in another. There the entries that compute with floats and answer an int64_t (referee_sheet, referee_coach, referee_place,
- * referee_candidates) answer REFEREE_OTHER_FLOAT_MODE before anything else and keep every byte; referee_check, referee_read_sheet and referee_read_item compute with none, never answer
- * it, and answer the same in every mode. The three entries that answer a float (referee_hypot, referee_normalize_angle, referee_rem_euclid) have no answer for it: they want the
+ * denormals-are-zero, or is linked with -ffast-math, runs in another. There the entries that compute with floats and answer an int64_t (referee_sheet, referee_display, referee_coach,
+ * referee_place, referee_candidates) answer REFEREE_OTHER_FLOAT_MODE before anything else and keep every byte; referee_check, referee_read_sheet and referee_read_item compute with none,
+ * never answer it, and answer the same in every mode. The three entries that answer a float (referee_hypot, referee_normalize_angle, referee_rem_euclid) have no answer for it: they want the
  * default mode and do not look.
  *
  * Threads and stack. No entry has state of its own, so that threads may call them at the same time, each with its own memory to write to. A call takes no heap and less than
@@ -31,6 +31,10 @@ extern "C" {
 /* Every sheet has room here: eight lists of at most 20 players, a kicker, a ball judgment, a place and the header are 166 lines of 45 bytes. */
 #define REFEREE_SHEET_BYTES 7470
 
+/* The lines that the display shows under the header, and room for every sheet that it shows: these and the header. */
+#define REFEREE_DISPLAY_LINES 12
+#define REFEREE_DISPLAY_BYTES 585
+
 /* Every line for the coach has room here: the longest is `Home 20 illegal unless kicker: only the kicker may be in the centre circle`. */
 #define REFEREE_COACH_BYTES 74
 
@@ -43,7 +47,7 @@ extern "C" {
 /* No list of candidates has more places than this. */
 #define REFEREE_CANDIDATES 8200
 
-/* Answers below 0 beside the refusals, which are -1 to -11: the words are no situation, the side is neither Home nor Away, or fewer words are lent than a place or an item has; the
+/* Answers below 0 beside the refusals, which are -1 to -12: the words are no situation, the side is neither Home nor Away, or fewer words are lent than a place or an item has; the
  * processor's float mode is not the default. */
 #define REFEREE_MALFORMED (-100)
 #define REFEREE_OTHER_FLOAT_MODE (-101)
@@ -58,6 +62,12 @@ int64_t referee_check(const uint32_t *words, size_t words_len);
  * REFEREE_OTHER_FLOAT_MODE; where the answer is below 0 nothing is written. */
 int64_t referee_sheet(const uint32_t *words, size_t words_len, const float *xs, size_t xs_len, const float *ys, size_t ys_len, uint8_t *sheet,
                       size_t sheet_len);
+
+/* The same sheet for the display in the corridor, which shows at most REFEREE_DISPLAY_LINES under the header: the situation is handed over as to referee_sheet, and the lines are the same.
+ * Answers as referee_sheet does, and -12 for a sheet of more lines, however many bytes are lent: the refusals are 1 to 5, then 12, then 7. Where the answer is below 0 nothing is
+ * written. */
+int64_t referee_display(const uint32_t *words, size_t words_len, const float *xs, size_t xs_len, const float *ys, size_t ys_len, uint8_t *sheet,
+                        size_t sheet_len);
 
 /* Writes the line that tells why a player does not stand legally, as `Home 4 illegal: own penalty area`, at the front of the lent text; the bytes after it are kept. The line is
  * ASCII with no line feed and no NUL at the end; docs/COACH.md has its words. The situation is handed over as to referee_sheet, the player by its side, REFEREE_SIDE_HOME or

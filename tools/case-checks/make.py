@@ -10,7 +10,8 @@ and the table of refusals. What is printed for an input that is no situation was
 of an input; the coach's lines, document 02's first request, from the original's rules.rs and the words of
 docs/COACH.md; the places with zeros, its second request, from the original's lib.rs; the texts that are read, its third
 request, from its own words (readings.py); who leaves the field, its fourth request, from its words and the original's
-carpet_excess. Nothing of the project is run.
+carpet_excess; what the display shows, its fifth request, from its words, the original's rules.rs and lib.rs, and the
+length of a line. Nothing of the project is run.
 
 README.md has the form of a record. A situation is words of 32 bits; a float is its bit pattern. tools/words/layout.py
 has where each run of words begins; PLACES has the words that cases change, by name. Players are in the order Home 1
@@ -86,12 +87,17 @@ def player_name(side, number):
     return f"{('home', 'away')[side]} {number}"
 
 
+def pose_places(run, k, name):
+    """The words of a player's pose in a run of poses, by name; that which says whether the pose is present has the name alone."""
+    at = AT[run] + layout.POSE_WORDS * k
+    return {name: at, f"{name} x": at + 1, f"{name} y": at + 2, f"{name} theta": at + 3, f"{name} radius": at + 4}
+
+
 def player_places(side, number):
-    """The words of a player's pose, penalty and allowance, by name; that which says whether the player is present has the player's name alone."""
+    """The words of a player's pose, reference pose, penalty and allowance, by name."""
     k = place(side, number)
-    at = AT["POSES"] + layout.POSE_WORDS * k
     name = player_name(side, number)
-    pose_words = {name: at, f"{name} x": at + 1, f"{name} y": at + 2, f"{name} theta": at + 3, f"{name} radius": at + 4}
+    pose_words = {**pose_places("POSES", k, name), **pose_places("REFERENCES", k, f"{name} reference")}
     return {**pose_words, f"{name} penalty": AT["PENALTIES"] + k, f"{name} allowance": AT["ALLOWANCES"] + k}
 
 
@@ -159,11 +165,13 @@ TELLS = 1  # the kind of a record whose input the program `judge` reads, and who
 ANSWERS = 2  # the same, and the answer is a sheet
 COACH_TELLS, COACH_ANSWERS = 3, 4  # the same two of `judge coach`, whose answer is lines for the coach
 READ_TELLS, READ_ANSWERS = 5, 6  # the same two of `judge read`, whose answer is a line for each item of a sheet
+DISPLAY_TELLS, DISPLAY_ANSWERS = 7, 8  # the same two of `judge display`, whose answer is a sheet for the display
 WRITE_SHEET = 10  # the kind of a record of the library's entry that no refusal is expected of; the refusal n makes it 10 + n
 WRITE_LINE = 20  # the same of the coach's line of one player
-READ_ROOM = 7680  # bytes that are lent for the items of a sheet
+WRITE_DISPLAY = 30  # the same of a sheet for the display
+AMPLE = 7680  # all bytes that the program can lend, for the items of a sheet, or for a sheet with ample room
 MOST = 512  # bytes that are lent where a case says nothing else
-LIST_ROOM = 393216  # bytes that the program case_checks has for the list
+LIST_ROOM = 458752  # bytes that the program case_checks has for the list
 
 
 def sheet(rows):
@@ -183,14 +191,14 @@ def situation(words, places=(0, 0), value=0.0, player=()):
     return " ".join(map(str, [*words, *places, pattern, *player])) + "\n"
 
 
-def written(name, base, edits, rows, room=MOST):
+def written(name, base, edits, rows, room=MOST, kind=WRITE_SHEET):
     """A case for which a sheet of these lines is written."""
-    return name, record(WRITE_SHEET, room, situation(edited(base, edits)), sheet(rows))
+    return name, record(kind, room, situation(edited(base, edits)), sheet(rows))
 
 
-def refused(name, base, edits, refusal, room, **places):
+def refused(name, base, edits, refusal, room, kind=WRITE_SHEET, **places):
     """A case that is refused: no byte is written."""
-    return name, record(WRITE_SHEET + refusal, room, situation(edited(base, edits), **places), "")
+    return name, record(kind + refusal, room, situation(edited(base, edits), **places), "")
 
 
 def empty(name, edits, refusal, **places):
@@ -272,9 +280,14 @@ def touchline():
     ]
 
 
+def headed(rows):
+    """The lines of a sheet: the header, which counts the others, and these."""
+    return [(0, 2, len(rows), 1), *rows]
+
+
 def place_rows(side, number, x, y, third):
-    """The lines of a sheet with a place alone: whose it is, and the patterns of its three numbers."""
-    return [(0, 2, 3, 1), (7, side, number, x), (8, side, number, y), (9, side, number, third)]
+    """The lines of a place: whose it is, and the patterns of its three numbers."""
+    return [(7, side, number, x), (8, side, number, y), (9, side, number, third)]
 
 
 def placements():
@@ -285,8 +298,8 @@ def placements():
     place_of_throw_in = place_rows(NO_SIDE, 0, 0x40DF_0000, 0x408F_0000, 0x3E00_0000)
     place_for_penalty = place_rows(HOME, 2, 0x40A0_0000, 0xC0A8_0000, 0x3FC9_0FDB)
     return [
-        written("throw-in place", EMPTY_FIELD, throw_in, place_of_throw_in),
-        written("penalty place", EMPTY_FIELD, penalty, place_for_penalty),
+        written("throw-in place", EMPTY_FIELD, throw_in, headed(place_of_throw_in)),
+        written("penalty place", EMPTY_FIELD, penalty, headed(place_for_penalty)),
     ]
 
 
@@ -310,7 +323,7 @@ def free_kick_places():
 
     def ball(name, x, y, values, radius=0.125, sides=LEFT):
         edits = {"sides": sides, "set play": DIRECT, "wish": 1, "ball x": x, "ball y": y, "ball radius": radius}
-        return written(f"free kick, {name}", BARE_FIELD, edits, place_rows(NO_SIDE, 0, *values))
+        return written(f"free kick, {name}", BARE_FIELD, edits, headed(place_rows(NO_SIDE, 0, *values)))
 
     half, eighth = bits(0.5), bits(0.125)
     return [
@@ -332,7 +345,7 @@ def keeper_places():
 
     def keeper(name, y, theta, values):
         edits = {**kick, **stands(AWAY, 1, -6.0, y), "away 1 theta": theta}
-        return written(f"goalkeeper, {name}", BARE_FIELD, edits, place_rows(AWAY, 1, 0xC0DF_0000, *values))
+        return written(f"goalkeeper, {name}", BARE_FIELD, edits, headed(place_rows(AWAY, 1, 0xC0DF_0000, *values)))
 
     return [
         keeper("heading -0", 0.5, -0.0, (bits(0.5), 0)),
@@ -346,7 +359,7 @@ def keeper_places():
 
 def leaving(name, edits, *who):
     """A case in which these players leave the field, and nothing else is on the sheet."""
-    return written(f"near edge, {name}", BARE_FIELD, edits, [(0, 2, len(who), 1), *((4, side, number, 0) for side, number in who)])
+    return written(f"near edge, {name}", BARE_FIELD, edits, headed([(4, side, number, 0) for side, number in who]))
 
 
 def near_edge():
@@ -607,6 +620,11 @@ def input_text(zeros, after):
     return "0 " * zeros + after
 
 
+# an input that is no situation, and what is told of it
+SIDES_2 = input_text(15, "2")
+SIDES_2_FAULT = "word 15 (sides): 2 is none of its values\n"
+
+
 def inputs():
     """A record for each input that is no situation, and for each that is refused."""
     out = []
@@ -628,8 +646,8 @@ def sheets_of_a():
         ("A for judge, 134 bytes", record(TELLS, 134, blanks, "refused 7\n")),
         ("A for judge, 10 bytes", record(TELLS, 10, blanks, "refused 7\n")),
         ("A for judge, 9 bytes", record(TELLS, 9, blanks, "")),
-        ("a fault, 41 bytes", record(TELLS, 41, input_text(15, "2"), "word 15 (sides): 2 is none of its values\n")),
-        ("a fault, 40 bytes", record(TELLS, 40, input_text(15, "2"), "")),
+        ("a fault, 41 bytes", record(TELLS, 41, SIDES_2, SIDES_2_FAULT)),
+        ("a fault, 40 bytes", record(TELLS, 40, SIDES_2, "")),
     ]
 
 
@@ -653,10 +671,14 @@ def farther(x):
     return bits(x) + 1
 
 
+def posed(name, x, y, radius=0.25):
+    """The words that change where a pose, by name, is at a place."""
+    return {name: 1, f"{name} x": x, f"{name} y": y, f"{name} radius": radius}
+
+
 def stands(side, number, x, y, radius=0.25):
     """The words that change where a player stands at a place."""
-    name = player_name(side, number)
-    return {name: 1, f"{name} x": x, f"{name} y": y, f"{name} radius": radius}
+    return posed(player_name(side, number), x, y, radius)
 
 
 def line(name, edits, player, answer, room=MOST):
@@ -871,9 +893,9 @@ def coach_numbers():
 # ---- `judge coach` ----
 
 
-def coach_input(edits):
-    """A situation as `judge coach` reads it, without earlier places."""
-    return " ".join(map(str, [*edited(BARE_FIELD, edits), 0, 0])) + "\n"
+def judge_input(edits, base=BARE_FIELD):
+    """A situation as `judge` reads it, without earlier places."""
+    return " ".join(map(str, [*edited(base, edits), 0, 0])) + "\n"
 
 
 def coach_answer(lines):
@@ -906,7 +928,7 @@ def judged_kick_off():
         "Away 1 illegal: opponent half",
         "Away 10 illegal: centre circle",
     ]
-    return "coach for judge, kick-off", record(COACH_ANSWERS, LONGEST, coach_input(edits), coach_answer(lines))
+    return "coach for judge, kick-off", record(COACH_ANSWERS, LONGEST, judge_input(edits), coach_answer(lines))
 
 
 def judged_penalty_kick():
@@ -935,7 +957,7 @@ def judged_penalty_kick():
         "Away 9 illegal unless kicker: opponent penalty area",
         "Away 20 illegal unless kicker: near the penalty mark",
     ]
-    return "coach for judge, penalty kick", record(COACH_ANSWERS, LONGEST, coach_input(edits), coach_answer(lines))
+    return "coach for judge, penalty kick", record(COACH_ANSWERS, LONGEST, judge_input(edits), coach_answer(lines))
 
 
 def judged_goal_kick():
@@ -954,7 +976,7 @@ def judged_goal_kick():
         "Home 10 in avoidance region: near the ball",
         "Home 11 in avoidance region: penalty area of the goal kick",
     ]
-    return "coach for judge, goal kick", record(COACH_ANSWERS, LONGEST, coach_input(edits), coach_answer(lines))
+    return "coach for judge, goal kick", record(COACH_ANSWERS, LONGEST, judge_input(edits), coach_answer(lines))
 
 
 def judged_free_kick():
@@ -972,23 +994,22 @@ def judged_free_kick():
         "Away 9 in avoidance region: own penalty area with the ball in it",
     ]
     return [
-        ("coach for judge, free kick, 195 bytes", record(COACH_ANSWERS, 195, coach_input(edits), coach_answer(lines))),
-        ("coach for judge, free kick, 194 bytes", record(COACH_TELLS, 194, coach_input(edits), "refused 8\n")),
-        ("coach for judge, nobody has a line", record(COACH_ANSWERS, LONGEST, coach_input({**edits, "ball y": farther(3.0)}), "")),
+        ("coach for judge, free kick, 195 bytes", record(COACH_ANSWERS, 195, judge_input(edits), coach_answer(lines))),
+        ("coach for judge, free kick, 194 bytes", record(COACH_TELLS, 194, judge_input(edits), "refused 8\n")),
+        ("coach for judge, nobody has a line", record(COACH_ANSWERS, LONGEST, judge_input({**edits, "ball y": farther(3.0)}), "")),
     ]
 
 
 def judged_coach():
     """What `judge coach` answers and tells: lines of both sides, none, a refusal and a fault, this with too few bytes too."""
-    fault = "word 15 (sides): 2 is none of its values\n"
     return [
         judged_kick_off(),
         judged_penalty_kick(),
         judged_goal_kick(),
         *judged_free_kick(),
         ("coach for judge, 565 zeros", record(COACH_TELLS, LONGEST, input_text(565, ""), "refused 1\n")),
-        ("coach for judge, a fault, 41 bytes", record(COACH_TELLS, 41, input_text(15, "2"), fault)),
-        ("coach for judge, a fault, 40 bytes", record(COACH_TELLS, 40, input_text(15, "2"), "")),
+        ("coach for judge, a fault, 41 bytes", record(COACH_TELLS, 41, SIDES_2, SIDES_2_FAULT)),
+        ("coach for judge, a fault, 40 bytes", record(COACH_TELLS, 40, SIDES_2, "")),
     ]
 
 
@@ -998,7 +1019,7 @@ def read_sheets():
     for name, given, expected in readings.CASES:
         kind, answer = (READ_ANSWERS, readings.said(given)) if expected >= 0 else (READ_TELLS, f"refused {-expected}\n")
         assert expected < 0 or answer.count("\n") == expected, name
-        cases.append((f"read, {name}", record(kind, READ_ROOM, given.decode("latin-1"), answer)))
+        cases.append((f"read, {name}", record(kind, AMPLE, given.decode("latin-1"), answer)))
     lines = "Home 5 is in excess in its goal area, rank 1\ngoal for Away\n"
     sheet_a = readings.A.decode()
     return cases + [
@@ -1006,6 +1027,104 @@ def read_sheets():
         ("read, case A, 58 bytes", record(READ_ANSWERS, 58, sheet_a, "")),
         ("read, empty text, 11 bytes", record(READ_TELLS, 11, "", "refused 11\n")),
         ("read, empty text, 10 bytes", record(READ_TELLS, 10, "", "")),
+    ]
+
+
+# ---- document 02's fifth request: for the display 12 is refused where more than twelve lines follow the header, after 5 and before 7 ----
+
+# Lines are made by players on the centre mark, (0, 0), at a kick-off that no side takes. By is_illegally_positioned each is illegal: its x in the team's direction, 0, is above
+# -(1/32 + radius), so that it is in the opponents' half. Nothing else is on the sheet but a place that is wished for: nobody kicks, the goal areas and the edges are far away, and the ball,
+# at (0, 0), is in the field. The radius is the least above 0, which is short to write.
+#
+# The place is that of the ball in Set: by `observe` it is the centre mark at a kick-off, and z is the ball's radius.
+BALL_ON_MARK = place_rows(NO_SIDE, 0, 0, 0, bits(0.125))
+
+
+def on_mark(count):
+    """So many players on the centre mark, half of them Home from 1 on, the others Away up to 20, and where the number is odd one more of Home: the words that change, and the lines."""
+    home, away = range(1, (count + 1) // 2 + 1), range(21 - count // 2, 21)
+    spot = (0.0, 0.0, ABOVE_0)
+    edits = {"set play": KICK_OFF, **players(HOME, dict.fromkeys(home, spot)), **players(AWAY, dict.fromkeys(away, spot))}
+    return edits, [*((1, HOME, number, 1) for number in home), *((1, AWAY, number, 1) for number in away)]
+
+
+TWELVE, ROWS_OF_TWELVE = on_mark(12)
+THIRTEEN, ROWS_OF_THIRTEEN = on_mark(13)
+
+
+def shown(name, edits, rows, room):
+    """A case for which a sheet of these lines after the header is written for the display."""
+    return written(f"display, {name}", BARE_FIELD, edits, headed(rows), room, WRITE_DISPLAY)
+
+
+def not_shown(name, edits, refusal, room):
+    """A case that is refused for the display: no byte is written."""
+    return refused(f"display refused {refusal}, {name}", BARE_FIELD, edits, refusal, room, WRITE_DISPLAY)
+
+
+def display_rooms():
+    """A line has 45 bytes: twelve and the header are 13 x 45 = 585, thirteen and the header 14 x 45 = 630. For the display twelve need 585, and thirteen are refused with 12 whatever is lent.
+    For the desk both are written where the lent bytes are enough."""
+    return [
+        *(shown(f"12 lines, {room} bytes lent", TWELVE, ROWS_OF_TWELVE, room) for room in (AMPLE, 585)),
+        not_shown("12 lines, 584 bytes lent", TWELVE, 7, 584),
+        not_shown("12 lines, nothing lent", TWELVE, 7, 0),
+        *(not_shown(f"13 lines, {room} bytes lent", THIRTEEN, 12, room) for room in (AMPLE, 630, 585, 584)),
+        not_shown("13 lines, nothing lent", THIRTEEN, 12, 0),
+        written("desk, 12 lines, 585 bytes lent", BARE_FIELD, TWELVE, headed(ROWS_OF_TWELVE), 585),
+        written("desk, 13 lines, 630 bytes lent", BARE_FIELD, THIRTEEN, headed(ROWS_OF_THIRTEEN), 630),
+        refused("desk refused 7, 13 lines, 629 bytes lent", BARE_FIELD, THIRTEEN, 7, 629),
+    ]
+
+
+def display_lines():
+    """No line, and eleven. With a place, which is three lines, nine are twelve, and ten are thirteen: 12, though the 630 bytes that they need are lent."""
+    eleven, rows_of_eleven = on_mark(11)
+    (nine, rows_of_nine), (ten, _) = on_mark(9), on_mark(10)
+    wish = {"wish": layout.WISH_BALL_IN_SET}
+    return [
+        shown("no line, 585 bytes lent", {}, [], 585),
+        shown("11 lines, 585 bytes lent", eleven, rows_of_eleven, 585),
+        shown(f"9 lines and a place, {AMPLE} bytes lent", {**nine, **wish}, rows_of_nine + BALL_ON_MARK, AMPLE),
+        not_shown("10 lines and a place, 630 bytes lent", {**ten, **wish}, 12, 630),
+    ]
+
+
+def display_several():
+    """With thirteen lines and too few bytes for them, each of 1 to 5 goes before 12 and 7; 5 with ample room too."""
+    wrong = {1: {"length": 3.5}, 2: {"home 1 radius": 0.0}, 3: {"ball z": NAN}, 4: {"home goalkeeper": 255}, 5: {"distance": 0.01}}
+    cases = [not_shown("with 12 and 7", {**THIRTEEN, **edits}, refusal, 584) for refusal, edits in wrong.items()]
+    return [*cases, not_shown("with 12", {**THIRTEEN, **wrong[5]}, 5, AMPLE)]
+
+
+def every_kind():
+    """Twelve lines, of all kinds: the words that change, and the lines. Home kicks off in Playing; its team's x is x negated, that of Away x. Home 1 is in the opponents' half and in the
+    circle, 0.5 from the mark: illegal unless kicker, and the kicking player. Home 3 is in the opponents' half and 2 from the mark, outside the circle, and Away 1 is in the opponents' half:
+    illegal. Home 4 to 8 are in their goal area, with the margins x - 5.75; none was inside before, so that of the five 5 and then 4 are too many, whose margins are 0.25 and 0.5. Away 2 is
+    6 - 5.5 - 0.25 past the side of the carpet. Away 3 is 1 from its reference pose, more than 0.1. The ball is past a touchline at x 0: document 01's throw-in for Away."""
+    game = {"set play": KICK_OFF, "kicking side": HOME, "ball y": 4.75, "wish": layout.WISH_BALL_IN_SET}
+    home = {1: (0.0, 0.5), 3: (0.0, 2.0), 4: (6.25, 0.0), 5: (6.0, 0.0), 6: (6.5, 0.0), 7: (6.75, 0.0), 8: (7.0, 0.0)}
+    away = {1: (0.0, 3.0), 2: (-3.0, 6.0), 3: (-4.0, 0.0)}
+    edits = {**game, **players(HOME, home), **players(AWAY, away), **posed("away 3 reference", -4.0, 1.0)}
+    verdicts = [(1, HOME, 1, 2), (1, HOME, 3, 1), (1, AWAY, 1, 1)]
+    others = [(2, HOME, 5, 1), (2, HOME, 4, 2), (3, HOME, 1, 0), (4, AWAY, 2, 0), (5, AWAY, 3, 0), (6, AWAY, 4, 0)]
+    return edits, verdicts + others + BALL_ON_MARK
+
+
+def judged_display():
+    """What `judge display` answers and tells: A's sheet and one of twelve lines, 12 and 1 for thirteen, and a fault; 12 and the fault with too few bytes too. The line of 12 has 11 bytes."""
+    edits, rows = every_kind()
+    assert len(rows) == 12
+    thirteen = judge_input(THIRTEEN)
+    return [
+        ("display for judge, A", record(DISPLAY_ANSWERS, LONGEST, judge_input({}, A), TEXT_OF_A)),
+        ("display for judge, 12 lines of all kinds", record(DISPLAY_ANSWERS, LONGEST, judge_input(edits), sheet(headed(rows)))),
+        ("display for judge, 13 lines", record(DISPLAY_TELLS, LONGEST, thirteen, "refused 12\n")),
+        ("display for judge, 13 lines, 11 bytes", record(DISPLAY_TELLS, 11, thirteen, "refused 12\n")),
+        ("display for judge, 13 lines, 10 bytes", record(DISPLAY_TELLS, 10, thirteen, "")),
+        ("display for judge, 1, with 12", record(DISPLAY_TELLS, LONGEST, judge_input({**THIRTEEN, "length": 3.5}), "refused 1\n")),
+        ("display for judge, a fault, 41 bytes", record(DISPLAY_TELLS, 41, SIDES_2, SIDES_2_FAULT)),
+        ("display for judge, a fault, 40 bytes", record(DISPLAY_TELLS, 40, SIDES_2, "")),
     ]
 
 
@@ -1017,6 +1136,7 @@ def main():
     cases += refusals() + several() + inputs() + sheets_of_a()
     cases += coach_lines() + coach_room() + coach_numbers() + judged_coach()
     cases += read_sheets()
+    cases += display_rooms() + display_lines() + display_several() + judged_display()
     if sys.argv[1:] == ["--list"]:
         for number, (name, _) in enumerate(cases, 1):
             print(f"{number}: {name}")

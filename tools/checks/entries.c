@@ -1,5 +1,5 @@
-/* Tries referee_sheet, referee_coach, referee_place, referee_candidates, referee_check, referee_read_sheet and referee_read_item of libreferee_c.a as a C program calls them, in every
- * float mode.
+/* Tries referee_sheet, referee_display, referee_coach, referee_place, referee_candidates, referee_check, referee_read_sheet and referee_read_item of libreferee_c.a as a C program calls
+ * them, in every float mode.
  *
  * usage: entries CASE_A SHEET default|flushing
  *
@@ -21,13 +21,66 @@ enum { DAZ = 0x0040, FTZ = 0x8000, DEFAULT = 0x1f80, ROUNDING = 13 };
 enum { ROOM = REFEREE_SHEET_BYTES + 100 };
 
 typedef struct {
-    const char *name;
     uint32_t words[REFEREE_WORDS];
     char sheet[256];
 } Case;
 
 static Case cases[3];
 static char seen[200];
+
+/* A kick-off that no side takes on A's field, with the ball and twelve players on the centre mark, Home 1 to 6 and Away 1 to 6, and the same with Away 7. Each player is in the opponents'
+ * half, which is illegal, and nothing else is on the sheet. Thirteen also with a distance of 0.01 between placed players, which is refused, and with sides of 2, which are no situation. */
+static uint32_t twelve[REFEREE_WORDS], thirteen[REFEREE_WORDS], thirteen_and_distance[REFEREE_WORDS], thirteen_and_sides[REFEREE_WORDS];
+
+#define TWELVE_LINES \
+    "          1          0          1          1\n" \
+    "          1          0          2          1\n" \
+    "          1          0          3          1\n" \
+    "          1          0          4          1\n" \
+    "          1          0          5          1\n" \
+    "          1          0          6          1\n" \
+    "          1          1          1          1\n" \
+    "          1          1          2          1\n" \
+    "          1          1          3          1\n" \
+    "          1          1          4          1\n" \
+    "          1          1          5          1\n" \
+    "          1          1          6          1\n"
+static const char of_twelve[] = "          0          2         12          1\n" TWELVE_LINES;
+static const char of_thirteen[] = "          0          2         13          1\n" TWELVE_LINES
+                                  "          1          1          7          1\n";
+
+/* A call of referee_sheet, or of referee_display, with so many lent bytes, what it answers and what it writes. */
+typedef struct {
+    const char *name;
+    bool display;
+    const uint32_t *words;
+    size_t length, room;
+    int answer;
+    const char *sheet;
+} Writing;
+
+static const Writing writings[] = {
+    {"case A", false, cases[0].words, REFEREE_WORDS, REFEREE_SHEET_BYTES, 135, cases[0].sheet},
+    {"a ball at the least positive x", false, cases[1].words, REFEREE_WORDS, REFEREE_SHEET_BYTES, 135, cases[1].sheet},
+    {"a defender at the penalty area", false, cases[2].words, REFEREE_WORDS, REFEREE_SHEET_BYTES, 45, cases[2].sheet},
+    {"thirteen lines", false, thirteen, REFEREE_WORDS, 630, 630, of_thirteen},
+    {"-7 where a byte is missing of thirteen lines", false, thirteen, REFEREE_WORDS, 629, -7, ""},
+    {"-100 of 562 words", false, cases[0].words, REFEREE_WORDS - 1, REFEREE_SHEET_BYTES, -100, ""},
+    {"-100 without words", false, cases[0].words, 0, REFEREE_SHEET_BYTES, -100, ""},
+    {"case A", true, cases[0].words, REFEREE_WORDS, REFEREE_DISPLAY_BYTES, 135, cases[0].sheet},
+    {"twelve lines", true, twelve, REFEREE_WORDS, REFEREE_DISPLAY_BYTES, 585, of_twelve},
+    {"bytes past twelve lines are kept", true, twelve, REFEREE_WORDS, REFEREE_SHEET_BYTES, 585, of_twelve},
+    {"-7 where a byte is missing of twelve lines", true, twelve, REFEREE_WORDS, 584, -7, ""},
+    {"-7 of twelve lines without room", true, twelve, REFEREE_WORDS, 0, -7, ""},
+    {"-12 of thirteen lines", true, thirteen, REFEREE_WORDS, REFEREE_SHEET_BYTES, -12, ""},
+    {"-12 before -7", true, thirteen, REFEREE_WORDS, 0, -12, ""},
+    {"-5 before -12", true, thirteen_and_distance, REFEREE_WORDS, REFEREE_SHEET_BYTES, -5, ""},
+    {"-5 before -12 and -7", true, thirteen_and_distance, REFEREE_WORDS, 0, -5, ""},
+    {"-100 of 562 words", true, thirteen, REFEREE_WORDS - 1, REFEREE_SHEET_BYTES, -100, ""},
+    {"-100 of a word outside its column", true, thirteen_and_sides, REFEREE_WORDS, REFEREE_SHEET_BYTES, -100, ""},
+};
+
+enum { WRITINGS = sizeof writings / sizeof writings[0] };
 
 /* Home's kick-off on A's field in Set, the same in Playing, and the first with a distance of 0.01 between placed players and with a ball at z NaN, which are refused. Home 2, 6
  * and 20 stand on the centre mark, of whom Home 6 is penalised; Home 3 stands legally, Home 1 is absent, and Away 2 is in the other half. */
@@ -242,21 +295,25 @@ static uint8_t filler(size_t i) {
     return (uint8_t)(i * 31 + 7);
 }
 
-/* Whether a call answers `want`, with `sheet` at the front of the lent bytes and the others kept. */
-static bool sheet_is(const char *name, const uint32_t *words, size_t length, long long want, const char *sheet) {
+static const char *entry_of(const Writing *call) {
+    return call->display ? "referee_display" : "referee_sheet";
+}
+
+/* Whether a call answers what it is to, with the sheet at the front of the lent bytes and the others kept. Where the mode is not the right one it is to answer -101 and keep every byte. */
+static bool sheet_is(const Writing *call, bool right) {
     static const float none[1];
     static uint8_t lent[ROOM];
     for (size_t i = 0; i < ROOM; i++)
         lent[i] = filler(i);
-    long long n = referee_sheet(words, length, none, 0, none, 0, lent, REFEREE_SHEET_BYTES);
-    size_t front = strlen(sheet);
-    if (n != want)
-        return wrong("referee_sheet", name, n, "");
-    if (memcmp(lent, sheet, front) != 0)
-        return wrong("referee_sheet", name, n, ", another sheet");
+    long long n = (call->display ? referee_display : referee_sheet)(call->words, call->length, none, 0, none, 0, lent, call->room);
+    size_t front = right ? strlen(call->sheet) : 0;
+    if (n != (right ? call->answer : -101))
+        return wrong(entry_of(call), call->name, n, "");
+    if (memcmp(lent, call->sheet, front) != 0)
+        return wrong(entry_of(call), call->name, n, ", another sheet");
     for (size_t i = front; i < ROOM; i++)
         if (lent[i] != filler(i))
-            return wrong("referee_sheet", name, n, ", a byte written that is to be kept");
+            return wrong(entry_of(call), call->name, n, ", a byte written that is to be kept");
     return true;
 }
 
@@ -280,7 +337,7 @@ static bool candidates_are(size_t length, long long want) {
     return true;
 }
 
-/* The same of a call of referee_coach, which is to answer -101 and keep every byte where the mode is not the right one. */
+/* The same of a call of referee_coach. */
 static bool coach_is(const Coach *call, bool right) {
     static const float none[1];
     static uint8_t lent[REFEREE_COACH_BYTES + 26];
@@ -345,10 +402,8 @@ static bool check_is(const char *name, const uint32_t *words, size_t length, lon
  * compute with no floats. */
 static void in_mode(const char *name, bool right) {
     bool ok = true;
-    for (size_t i = 0; i < 3; i++)
-        ok &= sheet_is(cases[i].name, cases[i].words, REFEREE_WORDS, right ? (long long)strlen(cases[i].sheet) : -101, right ? cases[i].sheet : "");
-    ok &= sheet_is("a word too few", cases[0].words, REFEREE_WORDS - 1, right ? -100 : -101, "");
-    ok &= sheet_is("no words", cases[0].words, 0, right ? -100 : -101, "");
+    for (size_t i = 0; i < WRITINGS; i++)
+        ok &= sheet_is(&writings[i], right);
     for (size_t i = 0; i < COACHES; i++)
         ok &= coach_is(&coaches[i], right);
     for (size_t i = 0; i < PLACINGS; i++)
@@ -424,6 +479,14 @@ static void check_words(void) {
     tell("referee_check: -100 without words", check_is("no words", words, 0, -100));
 }
 
+static void sheet_calls(void) {
+    char name[100];
+    for (size_t i = 0; i < WRITINGS; i++) {
+        snprintf(name, sizeof name, "%s: %s", entry_of(&writings[i]), writings[i].name);
+        tell(name, sheet_is(&writings[i], true));
+    }
+}
+
 static void coach_calls(void) {
     char name[100];
     for (size_t i = 0; i < COACHES; i++) {
@@ -480,6 +543,22 @@ static void put_ball(uint32_t *words, uint32_t x, uint32_t y, uint32_t z) {
     memcpy(words + REFEREE_W_BALL, ball, sizeof ball);
 }
 
+static void make_sheet_words(void) {
+    memcpy(twelve, cases[0].words, sizeof twelve);
+    twelve[REFEREE_W_SET_PLAY] = REFEREE_SET_PLAY_KICK_OFF;
+    put_ball(twelve, 0, 0, 0);
+    for (uint32_t number = 1; number <= 6; number++) {
+        put_pose(twelve, REFEREE_SIDE_HOME, number, 0, 0);
+        put_pose(twelve, REFEREE_SIDE_AWAY, number, 0, 0);
+    }
+    memcpy(thirteen, twelve, sizeof thirteen);
+    put_pose(thirteen, REFEREE_SIDE_AWAY, 7, 0, 0);
+    memcpy(thirteen_and_distance, thirteen, sizeof thirteen);
+    thirteen_and_distance[REFEREE_W_PENALTY_PLACEMENT_DISTANCE] = 0x3c23d70a; /* 0.01 */
+    memcpy(thirteen_and_sides, thirteen, sizeof thirteen);
+    thirteen_and_sides[REFEREE_W_SIDES] = 2;
+}
+
 static void make_place_words(void) {
     memcpy(free_kick, cases[0].words, sizeof free_kick);
     free_kick[REFEREE_W_SET_PLAY] = REFEREE_SET_PLAY_DIRECT_FREE_KICK;
@@ -512,7 +591,6 @@ static void read_cases(const char *case_a, const char *sheet) {
         if (file == NULL || fscanf(file, "%u", &cases[0].words[i]) != 1)
             stop("case A cannot be read");
     fclose(file);
-    cases[0].name = "case A";
     file = fopen(sheet, "r");
     if (file == NULL || fread(cases[0].sheet, 1, sizeof cases[0].sheet - 1, file) != 135)
         stop("the sheet of case A cannot be read");
@@ -521,7 +599,6 @@ static void read_cases(const char *case_a, const char *sheet) {
     /* A with the ball past a touchline where x is the least subnormal number, 2^-149. Document 01: the side whose half holds the ball takes only x = 0 as not positive, so
      * the throw-in is Home's. With subnormal operands as zeros it is Away's. */
     cases[1] = cases[0];
-    cases[1].name = "ball at the least positive x";
     cases[1].words[REFEREE_W_BALL] = 1;
     cases[1].words[REFEREE_W_BALL + 1] = 0x40980000; /* 4.75 */
     memcpy(cases[1].sheet + 90, "          6          0          4          0\n", 45);
@@ -529,7 +606,6 @@ static void read_cases(const char *case_a, const char *sheet) {
     /* Home's penalty kick on A's field; Away 2 at x = -3.70000005, y = 2 with radius 0.300000012 touches the line of its penalty area, x = -4. To nearest, -4 and the radius
      * make -3.70000005, so that the margin is 0 and it stands legally, as the original Rust answers; upward they make -3.6999998, and it would be inside, which is illegal. */
     cases[2] = cases[0];
-    cases[2].name = "defender at the penalty area";
     memset(cases[2].words + REFEREE_W_POSES, 0, 200 * sizeof(uint32_t));
     memset(cases[2].words + REFEREE_W_BALL, 0, 3 * sizeof(uint32_t));
     cases[2].words[REFEREE_W_STATE] = REFEREE_STATE_SET;
@@ -546,11 +622,13 @@ int main(int count, char **arguments) {
         stop("usage: entries CASE_A SHEET default|flushing");
     read_cases(arguments[1], arguments[2]);
     make_coach_words();
+    make_sheet_words();
     make_place_words();
     if (strcmp(arguments[3], "flushing") == 0)
         fast_math();
     else {
         modes();
+        sheet_calls();
         coach_calls();
         place_calls();
         read_calls();

@@ -6,7 +6,7 @@ use lib.Dec.{eqb}
 use lib.ListN.{length, getD}
 use Rattle.lists.specs.Every.{everyTo}
 use Rattle.arguments.specs.declared.Command.{Command}
-use Rattle.arguments.specs.declared.Command.the-variants.{Sheet, Coach, Read, Help}
+use Rattle.arguments.specs.declared.Command.the-variants.{Sheet, Display, Coach, Read, Help}
 use Rattle.arguments.specs.declared.MaybeCommand.{MaybeCommand}
 use Rattle.arguments.specs.declared.MaybeCommand.the-variants.{NoCommand, Of}
 use Rattle.arguments.specs.declared.Source.{Source}
@@ -21,6 +21,10 @@ isWord word name = eqb (length word) (length name) && everyTo (length word) (λ 
 -- "sheet"
 abbrev pub sheetWord : List ℕ
 sheetWord = 115 ∷ 104 ∷ 101 ∷ 101 ∷ 116 ∷ []
+
+-- "display"
+abbrev pub displayWord : List ℕ
+displayWord = 100 ∷ 105 ∷ 115 ∷ 112 ∷ 108 ∷ 97 ∷ 121 ∷ []
 
 -- "coach"
 abbrev pub coachWord : List ℕ
@@ -40,7 +44,9 @@ dash = 45 ∷ []
 
 -- the command that a word is, or none
 unfoldable pub commandOf : List ℕ → MaybeCommand
-commandOf word = cond (isWord word sheetWord) (Of Sheet) (cond (isWord word coachWord) (Of Coach) (cond (isWord word readWord) (Of Read) (cond (isWord word helpWord) (Of Help) NoCommand)))
+commandOf word =
+    cond (isWord word sheetWord) (Of Sheet)
+    (cond (isWord word displayWord) (Of Display) (cond (isWord word coachWord) (Of Coach) (cond (isWord word readWord) (Of Read) (cond (isWord word helpWord) (Of Help) NoCommand))))
 
 -- standard input for "-", otherwise the file of that name
 unfoldable pub sourceOf : List ℕ → Source → Source

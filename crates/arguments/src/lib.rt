@@ -6,6 +6,7 @@ ghost use Rattle.arguments.specs.Arguments as Spec;
 // The commands, those that `judge help` lists.
 pub enum Command {
     Sheet,
+    Display,
     Coach,
     Read,
     Help,
@@ -51,6 +52,9 @@ pub fn command_of(word: &[u8]) -> MaybeCommand
 {
     if is_word(word, b"sheet") {
         return MaybeCommand::Of(Command::Sheet);
+    }
+    if is_word(word, b"display") {
+        return MaybeCommand::Of(Command::Display);
     }
     if is_word(word, b"coach") {
         return MaybeCommand::Of(Command::Coach);

@@ -16,6 +16,7 @@ use Rattle.decision.proofs.Few.{moved-few, leaving-few, excess-few}
 use Rattle.sheet.specs.Sheet.{textOf}
 use Rattle.sheet.specs.declared.text.SheetAnswer.the-variants.{Written}
 use Rattle.sheet.proofs.Room.{Short, text-few}
+use Rattle.call.specs.declared.SheetFor.the-variants.{Desk}
 use Rattle.call.specs.Call.{sheetAnswer}
 use Rattle.call.proofs.Answers.{answer-cases}
 
@@ -32,7 +33,7 @@ pub text-room : (s : Situation) (xs ys : List Float) → length (textOf (decisio
 unfolding decisionOf
 text-room s xs ys = text-few (decisionOf s xs ys) (side-short s Home) (side-short s Away)
 
--- 7,470 bytes are never too few: what is not refused for itself is written
-pub room-enough : (s : Situation) (xs ys : List Float) (lent : ℕ) → 7470 ≤ lent → refusalOf s xs ys ≡ 0 → sheetAnswer s xs ys lent ≡ Written (length (textOf (decisionOf s xs ys)))
+-- 7,470 bytes are never too few for the desk: what is not refused for itself is written
+pub room-enough : (s : Situation) (xs ys : List Float) (lent : ℕ) → 7470 ≤ lent → refusalOf s xs ys ≡ 0 → sheetAnswer Desk s xs ys lent ≡ Written (length (textOf (decisionOf s xs ys)))
 room-enough s xs ys lent h e =
-    answer-cases s xs ys lent ∙ simp (eq-eqb (refusalOf s xs ys) 0 e, le-ltb lent (length (textOf (decisionOf s xs ys))) (omega (arith, text-room s xs ys, h)))
+    answer-cases Desk s xs ys lent ∙ simp (eq-eqb (refusalOf s xs ys) 0 e, le-ltb lent (length (textOf (decisionOf s xs ys))) (omega (arith, text-room s xs ys, h)))

@@ -1,4 +1,5 @@
 // Document 01's case A, built in: prints its sheet.
+use call::SheetFor;
 use game::Ball;
 use game::FieldDimensions;
 use game::Game;
@@ -139,7 +140,7 @@ fn main() {
     let xs = [0.0f32; 1];
     let ys = [0.0f32; 1];
     let mut text = io::buffer();
-    let answer = call::write_sheet(s, &xs[..0], &ys[..0], &mut text);
+    let answer = call::write_sheet(SheetFor::Desk, s, &xs[..0], &ys[..0], &mut text);
     match answer {
         SheetAnswer::Refused(_) => {
             io::write_all(STDOUT_FILENO, b"refused\n");

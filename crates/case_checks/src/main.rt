@@ -8,10 +8,11 @@ use libc::STDIN_FILENO;
 use libc::STDOUT_FILENO;
 use records::Found;
 use records::Record;
+use sheets::Asked;
 use std::num::wrapping_add_u64;
 
 // Room for the list.
-const ROOM: usize = 393216;
+const ROOM: usize = 458752;
 
 // More records than the list has.
 const MOST: u32 = 10000;
@@ -34,9 +35,10 @@ fn agrees(list: &[u8], r: Record) -> bool
     let answer = &list[middle..end];
     let kind = r.kind;
     match kind {
-        1..=6 => sheets::judged(kind, input, r.lent, answer),
-        10..=17 => sheets::called(false, input, r.lent, kind - 10, answer),
-        20..=28 => sheets::called(true, input, r.lent, kind - 20, answer),
+        1..=8 => sheets::judged(kind, input, r.lent, answer),
+        10..=17 => sheets::called(Asked::Desk, input, r.lent, kind - 10, answer),
+        20..=28 => sheets::called(Asked::Sentence, input, r.lent, kind - 20, answer),
+        30..=42 => sheets::called(Asked::Display, input, r.lent, kind - 30, answer),
         _ => false,
     }
 }

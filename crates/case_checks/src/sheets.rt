@@ -1,5 +1,6 @@
 // What records have: a text that the program `judge` reads, or words for the library's calls.
 ghost use Prim.Native.Nat.{_≤_};
+use call::SheetFor;
 use desk::Reply;
 use numbers::Reading;
 use sheet::SheetAnswer;
@@ -15,7 +16,14 @@ const SHEET_NUMBERS: usize = 566;
 
 const NUMBERS: usize = 568;
 
-// What `judge` prints for a text, where the kind is at most 2, or `judge coach`, where it is at most 4, or `judge read`.
+// The library's calls: for a sheet, for the desk or the display, and for a coach's line.
+pub(crate) enum Asked {
+    Desk,
+    Display,
+    Sentence,
+}
+
+// What `judge` prints for a text, where the kind is at most 2, or `judge coach`, where it is at most 4, or `judge read`, where it is at most 6, or `judge display`.
 fn replied(kind: u32, text: &[u8], out: &mut [u8]) -> Reply {
     if kind <= 2 {
         return desk::judge(text, out);
@@ -23,10 +31,13 @@ fn replied(kind: u32, text: &[u8], out: &mut [u8]) -> Reply {
     if kind <= 4 {
         return desk::coach(text, out);
     }
-    desk::read(text, out)
+    if kind <= 6 {
+        return desk::read(text, out);
+    }
+    desk::display(text, out)
 }
 
-// Whether this is told for the input, with so many bytes lent, where the kind is 1, 3 or 5, or answered where it is 2, 4 or 6, and all other bytes are kept.
+// Whether this is told for the input, with so many bytes lent, where the kind is odd, or answered where it is even, and all other bytes are kept.
 pub(crate) fn judged(kind: u32, input: &[u8], lent: usize, answer: &[u8]) -> bool {
     if MOST < lent {
         return false;
@@ -56,46 +67,57 @@ fn is_answer(answer: SheetAnswer, refusal: u32, size: usize) -> bool {
     }
 }
 
-// The call for these numbers, of the sheet or of a coach's line.
+// The call for these numbers.
 fn written<'a>(
-    coach: bool,
+    asked: Asked,
     numbers: &[u32; NUMBERS],
     xs: &'a [f32],
     ys: &'a [f32],
     out: &mut [u8],
 ) -> SheetAnswer {
     let s = words::situation_of(numbers);
-    if coach {
-        let side = words::side_of(numbers[566]);
-        return call::write_sentence(s, xs, ys, side, numbers[567], out);
+    match asked {
+        Asked::Desk => call::write_sheet(SheetFor::Desk, s, xs, ys, out),
+        Asked::Display => call::write_sheet(SheetFor::Display, s, xs, ys, out),
+        Asked::Sentence => {
+            let side = words::side_of(numbers[566]);
+            call::write_sentence(s, xs, ys, side, numbers[567], out)
+        }
     }
-    call::write_sheet(s, xs, ys, out)
+}
+
+// How many numbers the input of a call has.
+fn size_of(asked: Asked) -> usize {
+    match asked {
+        Asked::Desk => SHEET_NUMBERS,
+        Asked::Display => SHEET_NUMBERS,
+        Asked::Sentence => NUMBERS,
+    }
 }
 
 // The same on the front of the bytes.
-fn call(coach: bool, numbers: &[u32; NUMBERS], bytes: &mut [u8], lent: usize) -> SheetAnswer {
+fn call(asked: Asked, numbers: &[u32; NUMBERS], bytes: &mut [u8], lent: usize) -> SheetAnswer {
     let place = floats::from_bits(numbers[565]);
     let xs = [place; 4097];
     let ys = [place; 4097];
     let nx = count_of(numbers[563]);
     let ny = count_of(numbers[564]);
     if lent <= bytes.len() {
-        return written(coach, numbers, &xs[..nx], &ys[..ny], &mut bytes[..lent]);
+        return written(asked, numbers, &xs[..nx], &ys[..ny], &mut bytes[..lent]);
     }
     SheetAnswer::Refused(0)
 }
 
 // Whether the call for the numbers of the input gives this refusal, or, where it is 0, this text, and all other bytes are kept.
-pub(crate) fn called(coach: bool, input: &[u8], lent: usize, refusal: u32, text: &[u8]) -> bool {
+pub(crate) fn called(asked: Asked, input: &[u8], lent: usize, refusal: u32, text: &[u8]) -> bool {
     let mut numbers = [0u32; NUMBERS];
     let reading = numbers::read_numbers(input, &mut numbers);
     let Reading::Read(n) = reading else {
         return false;
     };
     let mut bytes = [FILL; MOST];
-    let answer = call(coach, &numbers, &mut bytes, lent);
+    let answer = call(asked, &numbers, &mut bytes, lent);
     let right = is_answer(answer, refusal, text.len());
     let kept = records::holds(&bytes, text, FILL);
-    let size = if coach { NUMBERS } else { SHEET_NUMBERS };
-    right & kept & (n == size)
+    right & kept & (n == size_of(asked))
 }

@@ -56,4 +56,12 @@ table =
       corner-past-side = refl;
       rounded-last = refl;
       edge-would-be = refl;
+      a-displayed = refl;
+      twelve-shown = (refl, refl);
+      thirteen-refused = (refl, refl, refl);
+      thirteen-kept = refl;
+      five-first = refl;
+      thirteen-for-desk = (refl, refl);
+      nine-and-three = refl;
+      ten-and-three = refl;
     }

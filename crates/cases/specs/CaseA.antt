@@ -1,7 +1,7 @@
 -- Case A of document 01, its variants, and the situations of the document's other cases. Definitions only.
 use mathlib.Core.Bool.{true, false}
 use mathlib.Core.List.{List, [], _∷_}
-use Prim.Native.Nat.{_^_}
+use Prim.Native.Nat.{ℕ, _^_}
 use lib.Ieee.{Float, binary32, neg, ofBits}
 use lib.ListN.{replicate}
 use Rattle.lists.specs.Put.{fronted}
@@ -15,14 +15,16 @@ use Rattle.game.specs.declared.Penalty.the-variants.{NoPenalty}
 use Rattle.game.specs.declared.Player.{Player}
 use Rattle.game.specs.declared.SeenPose.{SeenPose}
 use Rattle.game.specs.declared.SeenPose.the-variants.{Absent, Present}
+use Rattle.game.specs.declared.SetPlay.{SetPlay}
 use Rattle.game.specs.declared.SetPlay.the-variants.{NoSetPlay, KickOff, DirectFreeKick, ThrowIn}
 use Rattle.game.specs.declared.Side.the-variants.{Home}
 use Rattle.game.specs.declared.Situation.{Situation}
 use Rattle.game.specs.declared.State.{State}
 use Rattle.game.specs.declared.State.the-variants.{Set, Playing}
 use Rattle.game.specs.declared.Team.{Team}
+use Rattle.game.specs.declared.Wish.{Wish}
 use Rattle.game.specs.declared.Wish.the-variants.{Nothing, BallAtRestart, ForPenalty, Goalkeeper}
-use Rattle.cases.specs.Field.{_over_, fieldWith, gameIn, playerWith, seenOf, seenAt, at, absent, team, situationOn, situation}
+use Rattle.cases.specs.Field.{_over_, fieldWith, fieldA, gameIn, playerWith, seenOf, seenAt, at, absent, team, situationApart, situationOn, situation}
 
 -- ---- case A
 -- Home: 2 at (6.5, 0), 3 at (6.5, 1), 4 as given, 5 at (6.75, 0.5), and those from 6 on; 2, 3 and 4 were inside
@@ -118,3 +120,20 @@ atSide = 23 over 4
 -- the next value
 abbrev pub pastSide : Float
 pastSide = atSide +₃₂ 1 over (2 ^ 21)
+
+-- ---- the display
+-- Home 1 to n at (0, 7), where each leaves the field and nothing else is said of it, with the ball at the center: n lines after the header
+abbrev pub leavingBy : Float → ℕ → SetPlay → Wish → Situation
+leavingBy distance n play wish = situationApart distance fieldA (gameIn Playing play NoSide) (team (replicate n (at zero32 (7 over 1)))) (ballAt zero32 zero32) NoSide wish
+
+-- those lines alone
+abbrev pub crowd : ℕ → Situation
+crowd n = leavingBy (1 over 1) n NoSetPlay Nothing
+
+-- the same with a distance that is refused, 0.01
+abbrev pub crowdRefused : ℕ → Situation
+crowdRefused n = leavingBy (1 over 100) n NoSetPlay Nothing
+
+-- those lines, and the three of the ball's place at a free kick
+abbrev pub crowdAndPlace : ℕ → Situation
+crowdAndPlace n = leavingBy (1 over 1) n DirectFreeKick BallAtRestart

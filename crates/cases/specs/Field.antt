@@ -84,12 +84,12 @@ absent = playerWith Absent NoPenalty false
 abbrev pub team : List Player → Team
 team l = record { players = fronted l (replicate 20 absent); goalkeeper = NoNumber }
 
--- Away absent, distance 1, no restart, without which the two flags after it make no difference: document 01 leaves them open, and they are false
-abbrev pub situationOn : FieldDimensions → Game → Team → Ball → MaybeSide → Wish → Situation
-situationOn f g home ball contact wish =
+-- Away absent, this distance, no restart, without which the two flags after it make no difference: document 01 leaves them open, and they are false
+abbrev pub situationApart : Float → FieldDimensions → Game → Team → Ball → MaybeSide → Wish → Situation
+situationApart distance f g home ball contact wish =
     record {
       field = f;
-      «penalty_placement_distance» = 1 over 1;
+      «penalty_placement_distance» = distance;
       game = g;
       home = home;
       away = team [];
@@ -100,6 +100,10 @@ situationOn f g home ball contact wish =
       «ball_rested» = false;
       wish = wish;
     }
+
+-- distance 1
+abbrev pub situationOn : FieldDimensions → Game → Team → Ball → MaybeSide → Wish → Situation
+situationOn = situationApart (1 over 1)
 
 -- on the field of A
 abbrev pub situation : Game → Team → Ball → MaybeSide → Wish → Situation

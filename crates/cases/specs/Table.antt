@@ -19,9 +19,10 @@ use Rattle.decision.specs.Decision.{sideMargins, decisionOf, answerOf}
 use Rattle.decision.specs.HalfTurn.{turned}
 use Rattle.sheet.specs.Sheet.{textOf}
 use Rattle.sheet.specs.declared.text.SheetAnswer.the-variants.{Refused, Written}
+use Rattle.call.specs.declared.SheetFor.the-variants.{Desk, Display}
 use Rattle.call.specs.Call.{sheetAnswer, sheetAfter}
 use Rattle.cases.specs.Field.{_over_}
-use Rattle.cases.specs.CaseA.{ballAt, withBall, caseA, caseASet, fourAbsent, untouched, throwIn, alone, kickOffIn, freeKick, keeperHeading, least, reaching, atEnd, pastEnd, atSide, pastSide}
+use Rattle.cases.specs.CaseA.{ballAt, withBall, caseA, caseASet, fourAbsent, untouched, throwIn, alone, kickOffIn, freeKick, keeperHeading, least, reaching, atEnd, pastEnd, atSide, pastSide, crowd, crowdRefused, crowdAndPlace}
 use Rattle.cases.specs.Answers.{none, only, only2, answered, leavers, ownGoalAreas, linesFor, onlyPlace, sheetA}
 
 -- every case, each with its claims
@@ -31,9 +32,9 @@ pub record Table : Type 0 where
   -- its sheet
   pub a-sheet : textOf (decisionOf caseA [] []) ≡ sheetA
   -- 135 bytes lent do; refusal 7: 135 needed, 134 lent
-  pub a-written : (sheetAnswer caseA [] [] 135 ≡ Written 135) × (sheetAnswer caseA [] [] 134 ≡ Refused 7)
+  pub a-written : (sheetAnswer Desk caseA [] [] 135 ≡ Written 135) × (sheetAnswer Desk caseA [] [] 134 ≡ Refused 7)
   -- bytes after the last line are kept, and all of them where there is no room
-  pub a-after : (sheetAfter caseA [] [] (replicate 137 7) ≡ sheetA ++ (7 ∷ 7 ∷ [])) × (sheetAfter caseA [] [] (replicate 134 7) ≡ replicate 134 7)
+  pub a-after : (sheetAfter Desk caseA [] [] (replicate 137 7) ≡ sheetA ++ (7 ∷ 7 ∷ [])) × (sheetAfter Desk caseA [] [] (replicate 134 7) ≡ replicate 134 7)
   -- * A in Set: excess 4.
   pub a-in-set : answerOf caseASet [] [] ≡ answered (only 4) NoJudgment
   -- * A in Set with 4 absent and Home 6 added at (6.75, -0.5): margins of 2, 3, 5, 6 are 0.75, 0.75, 1, 1; excess 3.
@@ -100,3 +101,17 @@ pub record Table : Type 0 where
   -- x of the pattern 0x4101999a and the radius of 0x3dcccccd, about 8.1 and 0.1: leaving. With the radius added to the edge first, 8 + 0.1 is rounded to x, and it would not be.
   pub rounded-last : answerOf (reaching (ofBits binary32 0x3dcccccd) (ofBits binary32 0x4101999a) zero32) [] [] ≡ leavers (only 2)
   pub edge-would-be : (8 over 1) +₃₂ ofBits binary32 0x3dcccccd ≡ ofBits binary32 0x4101999a
+  -- Request 5. A's sheet for the display is the same.
+  pub a-displayed : sheetAfter Display caseA [] [] (replicate 137 7) ≡ sheetA ++ (7 ∷ 7 ∷ [])
+  -- Twelve lines after the header, 585 bytes with it: shown, and with a byte fewer refused with 7.
+  pub twelve-shown : (sheetAnswer Display (crowd 12) [] [] 585 ≡ Written 585) × (sheetAnswer Display (crowd 12) [] [] 584 ≡ Refused 7)
+  -- Thirteen, 630 bytes: refused with 12, with ample room, with a byte too few and with none, and every byte is kept.
+  pub thirteen-refused : (sheetAnswer Display (crowd 13) [] [] 1000 ≡ Refused 12) × (sheetAnswer Display (crowd 13) [] [] 629 ≡ Refused 12) × (sheetAnswer Display (crowd 13) [] [] 0 ≡ Refused 12)
+  pub thirteen-kept : sheetAfter Display (crowd 13) [] [] (replicate 630 7) ≡ replicate 630 7
+  -- A distance of 0.01 besides: 5, before 12.
+  pub five-first : sheetAnswer Display (crowdRefused 13) [] [] 1000 ≡ Refused 5
+  -- For the desk thirteen are written, by the length that it lends.
+  pub thirteen-for-desk : (sheetAnswer Desk (crowd 13) [] [] 630 ≡ Written 630) × (sheetAnswer Desk (crowd 13) [] [] 629 ≡ Refused 7)
+  -- Nine lines and the three of a place are twelve; ten and three are refused.
+  pub nine-and-three : sheetAnswer Display (crowdAndPlace 9) [] [] 585 ≡ Written 585
+  pub ten-and-three : sheetAnswer Display (crowdAndPlace 10) [] [] 630 ≡ Refused 12

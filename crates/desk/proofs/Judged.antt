@@ -64,7 +64,7 @@ pub answer-said : (text out next : List ℕ) (n : ℕ) → n ≡ writtenIn text 
 unfolding replyIn printedIn
 answer-said text out next n a b = (ap Answer a, b)
 
--- an answer of a text, and what the reply makes of it: the refusals r of the situation and then k, of the lent bytes
+-- an answer of a text, and what the reply makes of it: the refusal r, and then k, of the lent bytes
 module _ (r k : ℕ) (text out : List ℕ) where
   prints : (b f : Bool) → ltb (length out) (length text) ≡ f
       → (let a = cond b (cond f (Refused k) (Written (length text))) (Refused r) in
@@ -82,19 +82,24 @@ module _ (r k : ℕ) (text out : List ℕ) where
       let t = prints (eqb r 0) (ltb (length out) (length text)) refl in
       prints-as _ _ out next reply (ap (λ (z : SheetAnswer). answerPrinted z text) (sym ea)) (er ∙ ap₂ addedReply ea em ∙ t .0, ex ∙ ap₂ addedOut ea em ∙ t .1)
 
--- where this is wanted: the number of the refusal of the lent bytes
+-- where this is wanted: the first refusal before that of the lent bytes, and the number of that one
+wantedRefusal : Wanted → Situation → List Float → List Float → ℕ
+wantedRefusal (Sheet to) s xs ys = Sheets.refusalFor to s xs ys
+wantedRefusal Sentences s xs ys = refusalOf s xs ys
+
 roomNumber : Wanted → ℕ
-roomNumber Sheet = 7
+roomNumber (Sheet to) = 7
 roomNumber Sentences = 8
 
 answer-cases : (w : Wanted) (s : Situation) (xs ys : List Float) (lent : ℕ)
-    → wantedAnswer w s xs ys lent ≡ cond (eqb (refusalOf s xs ys) 0) (cond (ltb lent (length (wantedText w s xs ys))) (Refused (roomNumber w)) (Written (length (wantedText w s xs ys)))) (Refused (refusalOf s xs ys))
-unfolding roomNumber
-answer-cases Sheet s xs ys lent = Sheets.answer-cases s xs ys lent
+    → wantedAnswer w s xs ys lent ≡ cond (eqb (wantedRefusal w s xs ys) 0) (cond (ltb lent (length (wantedText w s xs ys))) (Refused (roomNumber w)) (Written (length (wantedText w s xs ys)))) (Refused (wantedRefusal w s xs ys))
+unfolding wantedRefusal roomNumber
+answer-cases (Sheet to) s xs ys lent = Sheets.answer-cases to s xs ys lent
 answer-cases Sentences s xs ys lent = Coach.answer-cases s xs ys lent
 
-after-told : (w : Wanted) (s : Situation) (xs ys : List Float) (out : List ℕ) → wantedAfter w s xs ys out ≡ cond (eqb (refusalOf s xs ys) 0) (frontedInto (wantedText w s xs ys) out) out
-after-told Sheet s xs ys out = Sheets.after-told s xs ys out
+after-told : (w : Wanted) (s : Situation) (xs ys : List Float) (out : List ℕ) → wantedAfter w s xs ys out ≡ cond (eqb (wantedRefusal w s xs ys) 0) (frontedInto (wantedText w s xs ys) out) out
+unfolding wantedRefusal
+after-told (Sheet to) s xs ys out = Sheets.after-told to s xs ys out
 after-told Sentences s xs ys out = Coach.after-told s xs ys out
 
 pub reply-printed : (w : Wanted) (s : Situation) (xs ys : List Float) (out : List ℕ) (a : SheetAnswer) (mid next : List ℕ) (r : Reply) → a ≡ wantedAnswer w s xs ys (length out) → mid ≡ wantedAfter w s xs ys out → r ≡ addedReply a mid → next ≡ addedOut a mid
@@ -102,7 +107,7 @@ pub reply-printed : (w : Wanted) (s : Situation) (xs ys : List Float) (out : Lis
 unfolding situationPrinted
 reply-printed w s xs ys out a mid next r ea em er ex =
     prints-as _ _ out next r (ap (λ (z : SheetAnswer). answerPrinted z (wantedText w s xs ys)) ea)
-    (answer-printed (refusalOf s xs ys) (roomNumber w) (wantedText w s xs ys) out a mid next r (ea ∙ answer-cases w s xs ys (length out)) (em ∙ after-told w s xs ys out) er ex)
+    (answer-printed (wantedRefusal w s xs ys) (roomNumber w) (wantedText w s xs ys) out a mid next r (ea ∙ answer-cases w s xs ys (length out)) (em ∙ after-told w s xs ys out) er ex)
 
 -- ---- the earlier places among the numbers
 -- the floats of a part of the numbers, taken from the front of the places that hold them

@@ -1,4 +1,4 @@
--- What is printed for a text that may be a situation: its sheet or the coach's lines, the number of the refusal, or one line that says at which number something is wrong and what;
+-- What is printed for a text that may be a situation: its sheet, for the desk or the display, or the coach's lines, the number of the refusal, or one line that says at which number something is wrong and what;
 -- and for one that may be a sheet: a line for each of its items, or the number of the refusal. Definitions only.
 use mathlib.Core.Bool.{cond}
 use mathlib.Core.List.{List, [], _∷_, _++_}
@@ -16,6 +16,7 @@ use Rattle.input.specs.declared.Input.the-variants.{Read, Wrong}
 use Rattle.words.specs.Words.{situationOf}
 use Rattle.decision.specs.Decision.{decisionOf}
 use Rattle.replies.specs.Replies.{faultLine, refusedLine, lineIn, writtenIn}
+use Rattle.call.specs.declared.SheetFor.the-variants.{Desk, Display}
 use Rattle.call.specs.Call.{sheetAnswer, sheetAfter}
 use Rattle.coach.specs.Coach.{sentencesOf, sentencesAnswer, sentencesAfter}
 use Rattle.sheet.specs.Sheet.{textOf}
@@ -47,16 +48,16 @@ answerPrinted (Written n) text = answer text
 
 -- the text that is wanted of a situation
 abbrev pub wantedText : Wanted → Situation → List Float → List Float → List ℕ
-wantedText Sheet s xs ys = textOf (decisionOf s xs ys)
+wantedText (Sheet to) s xs ys = textOf (decisionOf s xs ys)
 wantedText Sentences s xs ys = sentencesOf s
 
 -- what is then answered, and the lent bytes after it
 abbrev pub wantedAnswer : Wanted → Situation → List Float → List Float → ℕ → SheetAnswer
-wantedAnswer Sheet s xs ys lent = sheetAnswer s xs ys lent
+wantedAnswer (Sheet to) s xs ys lent = sheetAnswer to s xs ys lent
 wantedAnswer Sentences s xs ys lent = sentencesAnswer s xs ys lent
 
 abbrev pub wantedAfter : Wanted → Situation → List Float → List Float → List ℕ → List ℕ
-wantedAfter Sheet s xs ys out = sheetAfter s xs ys out
+wantedAfter (Sheet to) s xs ys out = sheetAfter to s xs ys out
 wantedAfter Sentences s xs ys out = sentencesAfter s xs ys out
 
 -- for a situation and its earlier places, where so many bytes are lent
@@ -76,9 +77,13 @@ inputPrinted wanted (Wrong i fault) ns lent = told (faultLine ns i fault)
 unfoldable pub textPrinted : Wanted → List ℕ → ℕ → Printed
 textPrinted wanted text lent = inputPrinted wanted (inputOf text) (numbersOf text) lent
 
--- where the sheet is wanted
+-- where the sheet is wanted for the desk
 abbrev pub judgedPrinted : List ℕ → ℕ → Printed
-judgedPrinted text lent = textPrinted Sheet text lent
+judgedPrinted text lent = textPrinted (Sheet Desk) text lent
+
+-- where it is wanted for the display
+abbrev pub displayedPrinted : List ℕ → ℕ → Printed
+displayedPrinted text lent = textPrinted (Sheet Display) text lent
 
 -- where the coach's lines are
 abbrev pub coachedPrinted : List ℕ → ℕ → Printed

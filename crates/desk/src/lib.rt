@@ -8,6 +8,7 @@ ghost use Rattle.reading.specs.Reading.{itemsIn, sheetRead};
 ghost use Rattle.reading.specs.declared.SheetRead.the-variants.{Lines};
 ghost use Rattle.item_lines.specs.ItemLines.{itemLine};
 ghost use Rattle.desk.specs.Desk as Spec;
+use call::SheetFor;
 use columns::layout::WORDS;
 use game::Situation;
 use input::FIRST_X;
@@ -28,7 +29,7 @@ pub enum Reply {
 
 // What is wanted of a situation.
 enum Wanted {
-    Sheet,
+    Sheet(SheetFor),
     Sentences,
 }
 
@@ -44,7 +45,7 @@ fn write_wanted<'a>(
     ensures { λ _. ⌜ now (out .exit) ≡ Spec.wantedAfter wanted s (now (xs .entry)) (now (ys .entry)) (now (out .entry)) ⌝ }
 {
     match wanted {
-        Wanted::Sheet => call::write_sheet(s, xs, ys, out),
+        Wanted::Sheet(to) => call::write_sheet(to, s, xs, ys, out),
         Wanted::Sentences => call::write_sentences(s, xs, ys, out),
     }
 }
@@ -101,7 +102,15 @@ pub fn judge(text: &[u8], out: &mut [u8]) -> Reply
     ensures { λ r. ⌜ r ≡ Spec.replyIn (Spec.judgedPrinted (now (text .entry)) (length (now (out .entry)))) (now (out .entry)) ⌝ }
     ensures { λ _. ⌜ now (out .exit) ≡ Spec.printedIn (Spec.judgedPrinted (now (text .entry)) (length (now (out .entry)))) (now (out .entry)) ⌝ }
 {
-    judge_text(Wanted::Sheet, text, out)
+    judge_text(Wanted::Sheet(SheetFor::Desk), text, out)
+}
+
+// The same for the display.
+pub fn display(text: &[u8], out: &mut [u8]) -> Reply
+    ensures { λ r. ⌜ r ≡ Spec.replyIn (Spec.displayedPrinted (now (text .entry)) (length (now (out .entry)))) (now (out .entry)) ⌝ }
+    ensures { λ _. ⌜ now (out .exit) ≡ Spec.printedIn (Spec.displayedPrinted (now (text .entry)) (length (now (out .entry)))) (now (out .entry)) ⌝ }
+{
+    judge_text(Wanted::Sheet(SheetFor::Display), text, out)
 }
 
 // The same for the coach's lines.

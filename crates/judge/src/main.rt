@@ -66,6 +66,7 @@ fn answer(text: &[u8]) {
 
 fn reply_to(command: Command, text: &[u8], out: &mut [u8]) -> Reply {
     match command {
+        Command::Display => desk::display(text, out),
         Command::Coach => desk::coach(text, out),
         Command::Read => desk::read(text, out),
         _ => desk::judge(text, out),
@@ -104,7 +105,7 @@ fn run_file(command: Command, name: &[u8]) {
 
 fn help() {
     answer(
-        b"judge [COMMAND] [FILE]\n\nsheet   judges a situation and prints its sheet; where no command is given, this one\ncoach   tells for each player that does not stand legally which rule it breaks, a line each\nread    reads a sheet and tells what each of its lines says, a line each\nhelp    prints this text\n\nWithout a file, or where it is -, standard input is read. A file that has a command's name is written ./sheet.\n",
+        b"judge [COMMAND] [FILE]\n\nsheet   judges a situation and prints its sheet; where no command is given, this one\ndisplay judges a situation and prints its sheet for the display, which shows twelve lines under the header\ncoach   tells for each player that does not stand legally which rule it breaks, a line each\nread    reads a sheet and tells what each of its lines says, a line each\nhelp    prints this text\n\nWithout a file, or where it is -, standard input is read. A file that has a command's name is written ./sheet.\n",
     );
 }
 

@@ -10,6 +10,7 @@ use Rattle.decision.specs.Decision.{decisionOf}
 use Rattle.lines.specs.Line.{linesOf}
 use Rattle.sheet.specs.Rows.{header}
 use Rattle.sheet.specs.declared.text.SheetAnswer.the-variants.{Written}
+use Rattle.call.specs.declared.SheetFor.{SheetFor}
 use Rattle.call.specs.Call.{sheetAnswer, sheetAfter}
 use Rattle.words.specs.Words.{situationOf}
 use Rattle.places_hold.specs.Claims.{PlaceFloats}
@@ -36,18 +37,18 @@ abbrev pub RefusalsClaim : Type 0
 RefusalsClaim = (text : List ℕ) → Refusals text
 
 -- ---- what is written is read
--- the bytes that the sheet's call counts as written are accepted, and their items are the decision's
-pub record ReadBack (s : Situation) (xs ys : List Float) (sheet : List ℕ) (n : ℕ) : Type 0 where
-  pub accepted : readRefusal (take n (sheetAfter s xs ys sheet)) ≡ 0
-  pub items : itemsIn (take n (sheetAfter s xs ys sheet)) ≡ itemsOf (decisionOf s xs ys)
+-- the bytes that the sheet's call counts as written, for the desk or the display, are accepted, and their items are the decision's
+pub record ReadBack (to : SheetFor) (s : Situation) (xs ys : List Float) (sheet : List ℕ) (n : ℕ) : Type 0 where
+  pub accepted : readRefusal (take n (sheetAfter to s xs ys sheet)) ≡ 0
+  pub items : itemsIn (take n (sheetAfter to s xs ys sheet)) ≡ itemsOf (decisionOf s xs ys)
 
 -- whatever bytes were lent, for every situation whose floats are binary32 and whose sheet is written
 abbrev pub ReadBackClaim : Type 0
-ReadBackClaim = (s : Situation) (xs ys : List Float) (sheet : List ℕ) (n : ℕ) → PlaceFloats s → sheetAnswer s xs ys (length sheet) ≡ Written n → ReadBack s xs ys sheet n
+ReadBackClaim = (to : SheetFor) (s : Situation) (xs ys : List Float) (sheet : List ℕ) (n : ℕ) → PlaceFloats s → sheetAnswer to s xs ys (length sheet) ≡ Written n → ReadBack to s xs ys sheet n
 
 -- and so of all words, with no premise but that the sheet is written
 abbrev pub WordsReadBackClaim : Type 0
-WordsReadBackClaim = (ws : List ℕ) (xs ys : List Float) (sheet : List ℕ) (n : ℕ) → sheetAnswer (situationOf ws) xs ys (length sheet) ≡ Written n → ReadBack (situationOf ws) xs ys sheet n
+WordsReadBackClaim = (to : SheetFor) (ws : List ℕ) (xs ys : List Float) (sheet : List ℕ) (n : ℕ) → sheetAnswer to (situationOf ws) xs ys (length sheet) ≡ Written n → ReadBack to (situationOf ws) xs ys sheet n
 
 -- ---- what is read can be written
 -- the header with their count and the lines of the items of an accepted text are that text, byte for byte

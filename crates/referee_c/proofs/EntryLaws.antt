@@ -16,10 +16,11 @@ use Rattle.candidates.specs.Candidates.{refusalOf, answerOf}
 use Rattle.columns.specs.Layout.{wordCount}
 use Rattle.columns.specs.Columns.{wordsWithin, isSituation}
 use Rattle.words.specs.Words.{sideOf, situationOf}
+use Rattle.call.specs.declared.SheetFor.{SheetFor}
 use Rattle.call.specs.Call.{sheetAnswer, sheetAfter}
 use Rattle.coach.specs.Coach.{sentenceAnswer, sentenceAfter}
 use Rattle.sheet.specs.declared.text.SheetAnswer.{SheetAnswer}
-use Rattle.referee_c.specs.Entries.{minus, checkNumber, answerNumber, sheetNumber, sheetBytes, isCoachAsked, coachNumber, coachBytes, candidatesNumber}
+use Rattle.referee_c.specs.Entries.{minus, checkNumber, answerNumber, numberFor, bytesFor, isCoachAsked, coachNumber, coachBytes, candidatesNumber}
 
 -- ---- whether words are a situation, by the two tests: their number, and how many are within
 abbrev checked : Bool → Bool → ℕ → ℤ
@@ -65,19 +66,19 @@ module _ (asked : Bool) (answer : SheetAnswer) (after lent : List ℕ) where
   is-asked : (a : SheetAnswer) (next : List ℕ) → asked ≡ true → a ≡ answer → next ≡ after → (answerNumber a ≡ cond asked (answerNumber answer) (minus 100)) × (next ≡ cond asked after lent)
   is-asked a next t e p = (ap answerNumber e ∙ ap (λ (b : Bool). cond b (answerNumber answer) (minus 100)) (sym t), p ∙ ap (λ (b : Bool). cond b after lent) (sym t))
 
-module _ (ws : List ℕ) (xs ys : List Float) (sheet : List ℕ) where
+module _ (to : SheetFor) (ws : List ℕ) (xs ys : List Float) (sheet : List ℕ) where
   -- the words are no situation
-  pub no-situation : isSituation ws ≡ false → (minus 100 ≡ sheetNumber ws xs ys (length sheet)) × (sheet ≡ sheetBytes ws xs ys sheet)
-  unfolding sheetNumber sheetBytes
-  no-situation f = not-asked (isSituation ws) (sheetAnswer (situationOf ws) xs ys (length sheet)) (sheetAfter (situationOf ws) xs ys sheet) sheet f
+  pub no-situation : isSituation ws ≡ false → (minus 100 ≡ numberFor to ws xs ys (length sheet)) × (sheet ≡ bytesFor to ws xs ys sheet)
+  unfolding numberFor bytesFor
+  no-situation f = not-asked (isSituation ws) (sheetAnswer to (situationOf ws) xs ys (length sheet)) (sheetAfter to (situationOf ws) xs ys sheet) sheet f
 
   -- they are s
-  pub a-situation : (s : Situation) (a : SheetAnswer) (next : List ℕ) → isSituation ws ≡ true → s ≡ situationOf ws → a ≡ sheetAnswer s xs ys (length sheet) → next ≡ sheetAfter s xs ys sheet
-      → (answerNumber a ≡ sheetNumber ws xs ys (length sheet)) × (next ≡ sheetBytes ws xs ys sheet)
-  unfolding sheetNumber sheetBytes
+  pub a-situation : (s : Situation) (a : SheetAnswer) (next : List ℕ) → isSituation ws ≡ true → s ≡ situationOf ws → a ≡ sheetAnswer to s xs ys (length sheet) → next ≡ sheetAfter to s xs ys sheet
+      → (answerNumber a ≡ numberFor to ws xs ys (length sheet)) × (next ≡ bytesFor to ws xs ys sheet)
+  unfolding numberFor bytesFor
   a-situation s a next t same e p =
-      is-asked (isSituation ws) (sheetAnswer (situationOf ws) xs ys (length sheet)) (sheetAfter (situationOf ws) xs ys sheet) sheet a next t (e ∙ ap (λ (u : Situation). sheetAnswer u xs ys (length sheet)) same)
-      (p ∙ ap (λ (u : Situation). sheetAfter u xs ys sheet) same)
+      is-asked (isSituation ws) (sheetAnswer to (situationOf ws) xs ys (length sheet)) (sheetAfter to (situationOf ws) xs ys sheet) sheet a next t (e ∙ ap (λ (u : Situation). sheetAnswer to u xs ys (length sheet)) same)
+      (p ∙ ap (λ (u : Situation). sheetAfter to u xs ys sheet) same)
 
 module _ (ws : List ℕ) (xs ys : List Float) (side n : ℕ) (text : List ℕ) where
   -- the words are no situation, or the side is none

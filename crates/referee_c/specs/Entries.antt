@@ -17,6 +17,8 @@ use Rattle.decision.specs.declared.call.Answer.{Answer}
 use Rattle.columns.specs.Layout.{wordCount}
 use Rattle.columns.specs.Columns.{wordsWithin, isSituation}
 use Rattle.words.specs.Words.{sideOf, situationOf}
+use Rattle.call.specs.declared.SheetFor.{SheetFor}
+use Rattle.call.specs.declared.SheetFor.the-variants.{Desk, Display}
 use Rattle.call.specs.Call.{sheetAnswer, sheetAfter}
 use Rattle.coach.specs.Coach.{sentenceAnswer, sentenceAfter}
 use Rattle.reading.specs.Reading.{sheetRead, numbersRead}
@@ -40,13 +42,27 @@ abbrev pub answerNumber : SheetAnswer → ℤ
 answerNumber (Refused n) = minus n
 answerNumber (Written n) = pos n
 
--- of words, the earlier places and the number of bytes lent
-unfoldable pub sheetNumber : List ℕ → List Float → List Float → ℕ → ℤ
-sheetNumber ws xs ys lent = cond (isSituation ws) (answerNumber (sheetAnswer (situationOf ws) xs ys lent)) (minus 100)
+-- of words, the earlier places and the number of bytes lent, for the desk or the display
+unfoldable pub numberFor : SheetFor → List ℕ → List Float → List Float → ℕ → ℤ
+numberFor to ws xs ys lent = cond (isSituation ws) (answerNumber (sheetAnswer to (situationOf ws) xs ys lent)) (minus 100)
 
 -- the lent bytes after the call; what is no situation changes nothing
-unfoldable pub sheetBytes : List ℕ → List Float → List Float → List ℕ → List ℕ
-sheetBytes ws xs ys sheet = cond (isSituation ws) (sheetAfter (situationOf ws) xs ys sheet) sheet
+unfoldable pub bytesFor : SheetFor → List ℕ → List Float → List Float → List ℕ → List ℕ
+bytesFor to ws xs ys sheet = cond (isSituation ws) (sheetAfter to (situationOf ws) xs ys sheet) sheet
+
+-- both for the desk
+abbrev pub sheetNumber : List ℕ → List Float → List Float → ℕ → ℤ
+sheetNumber ws xs ys lent = numberFor Desk ws xs ys lent
+
+abbrev pub sheetBytes : List ℕ → List Float → List Float → List ℕ → List ℕ
+sheetBytes ws xs ys sheet = bytesFor Desk ws xs ys sheet
+
+-- and for the display
+abbrev pub displayNumber : List ℕ → List Float → List Float → ℕ → ℤ
+displayNumber ws xs ys lent = numberFor Display ws xs ys lent
+
+abbrev pub displayBytes : List ℕ → List Float → List Float → List ℕ → List ℕ
+displayBytes ws xs ys sheet = bytesFor Display ws xs ys sheet
 
 -- ---- the coach's line
 -- the words are a situation, and the side is one

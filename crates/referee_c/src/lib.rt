@@ -14,6 +14,7 @@ ghost use Rattle.geometry.specs.Geometry.{normalizeAngle};
 ghost use Rattle.candidates.specs.Candidates.{answerOf};
 ghost use Rattle.sheet.specs.Sheet.{bytesIn};
 ghost use Rattle.referee_c.specs.Entries as Spec;
+use call::SheetFor;
 use columns::layout::WORDS;
 use game::Placement;
 use reading::LineRead;
@@ -53,6 +54,28 @@ pub extern "C" fn referee_check(words: &[u32]) -> i64
     minus(100)
 }
 
+// Decides on the situation that the words are and writes its sheet, for the desk or the display.
+fn write_sheet<'a>(
+    to: SheetFor,
+    words: &[u32],
+    xs: &'a [f32],
+    ys: &'a [f32],
+    sheet: &mut [u8],
+) -> i64
+    ensures { λ r. ⌜ r ≡ Spec.numberFor to (now (words .entry)) (now (xs .entry)) (now (ys .entry)) (length (now (sheet .entry))) ⌝ }
+    ensures { λ _. ⌜ now (sheet .exit) ≡ Spec.bytesFor to (now (words .entry)) (now (xs .entry)) (now (ys .entry)) (now (sheet .entry)) ⌝ }
+{
+    if !mode::is_ieee_mode(words.len()) {
+        return minus(101);
+    }
+    if columns::is_situation(words) {
+        let s = words::situation_of(words);
+        let answer = call::write_sheet(to, s, xs, ys, sheet);
+        return answer_number(answer);
+    }
+    minus(100)
+}
+
 // Decides on the situation that the words are and writes its sheet at the front of the lent bytes. Answers the number of bytes written, or a refusal.
 #[no_mangle]
 pub extern "C" fn referee_sheet<'a>(
@@ -64,15 +87,21 @@ pub extern "C" fn referee_sheet<'a>(
     ensures { λ r. ⌜ r ≡ Spec.sheetNumber (now (words .entry)) (now (xs .entry)) (now (ys .entry)) (length (now (sheet .entry))) ⌝ }
     ensures { λ _. ⌜ now (sheet .exit) ≡ Spec.sheetBytes (now (words .entry)) (now (xs .entry)) (now (ys .entry)) (now (sheet .entry)) ⌝ }
 {
-    if !mode::is_ieee_mode(words.len()) {
-        return minus(101);
-    }
-    if columns::is_situation(words) {
-        let s = words::situation_of(words);
-        let answer = call::write_sheet(s, xs, ys, sheet);
-        return answer_number(answer);
-    }
-    minus(100)
+    write_sheet(SheetFor::Desk, words, xs, ys, sheet)
+}
+
+// The same for the display, which shows at most twelve lines under the header: 12 for more of them, after 5 and before 7.
+#[no_mangle]
+pub extern "C" fn referee_display<'a>(
+    words: &[u32],
+    xs: &'a [f32],
+    ys: &'a [f32],
+    sheet: &mut [u8],
+) -> i64
+    ensures { λ r. ⌜ r ≡ Spec.displayNumber (now (words .entry)) (now (xs .entry)) (now (ys .entry)) (length (now (sheet .entry))) ⌝ }
+    ensures { λ _. ⌜ now (sheet .exit) ≡ Spec.displayBytes (now (words .entry)) (now (xs .entry)) (now (ys .entry)) (now (sheet .entry)) ⌝ }
+{
+    write_sheet(SheetFor::Display, words, xs, ys, sheet)
 }
 
 // Writes the coach's line on one player of the situation that the words are at the front of the lent text. Answers the line's length, 0 for a player that stands legally, or a refusal.

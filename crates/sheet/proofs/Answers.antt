@@ -11,15 +11,25 @@ use Rattle.lines.specs.Line.{lineOf, linesOf}
 use Rattle.lines.specs.Over.{over}
 use Rattle.lines.proofs.Lines.{length-line, length-lines, lines-append}
 use Rattle.lines.proofs.Over.{over-front, stage-none, stage-next}
-use Rattle.sheet.specs.Rows.{header, rowsOf, sheetRows}
+use Rattle.sheet.specs.Blocks.{allRows}
+use Rattle.sheet.specs.declared.blocks.Block.{Block}
+use Rattle.sheet.specs.Rows.{header, placeRows, rowsOf, sheetRows}
 use Rattle.sheet.specs.Sheet.{textOf, decisionAnswer, decisionSheet}
 use Rattle.sheet.specs.declared.text.SheetAnswer.the-variants.{Refused, Written}
 use Rattle.sheet.proofs.Texts.{text-short, text-fits}
+use Rattle.sheet.proofs.Written.{place-few}
 
 -- the bytes of a decision's text
 pub text-long : (d : Decision) → length (textOf d) ≡ 45 * length (rowsOf d) + 45
 unfolding textOf sheetRows
 text-long d = length-lines (sheetRows d) ∙ omega arith
+
+-- ---- how many lines there are: those of the blocks and those of the place
+pub lines-counted : (d : Decision) (blocks : List Block) (n k : ℕ) → n ≡ length (allRows blocks) → k ≡ length (placeRows (d .place)) → allRows blocks ++ placeRows (d .place) ≡ rowsOf d → n + k ≡ length (rowsOf d)
+lines-counted d blocks n k e f all = omega (arith, e, f, length-append (allRows blocks) (placeRows (d .place)), ap length all)
+
+pub lines-few : (d : Decision) (n k : ℕ) → n ≤ 200 → k ≡ length (placeRows (d .place)) → n + k ≤ 203
+lines-few d n k h f = omega (arith, h, f, place-few (d .place))
 
 -- ---- the answer
 answer-short : (d : Decision) (lent : ℕ) → lent < length (textOf d) → decisionAnswer d lent ≡ Refused 7

@@ -3,4 +3,5 @@ mod blocks;
 mod text;
 
 pub use text::SheetAnswer;
+pub use text::lines_following;
 pub use text::write_decision;

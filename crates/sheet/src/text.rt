@@ -5,6 +5,7 @@ ghost use lib.ListN.{length};
 ghost use Rattle.lines.specs.Line.{lineOf, linesOf};
 ghost use Rattle.lines.specs.Over.{over};
 ghost use Rattle.sheet.specs.Blocks.{blockRows, Few, allRows, placeLineRows};
+ghost use Rattle.sheet.specs.Rows.{rowsOf};
 ghost use Rattle.sheet.specs.Sheet as Spec;
 use super::blocks::Block;
 use super::blocks::PlaceLines;
@@ -77,6 +78,16 @@ fn line_count(blocks: [Block; 10]) -> usize
         i += 1;
     }
     n
+}
+
+// How many lines follow the header of a decision's sheet.
+pub fn lines_following(d: Decision) -> usize
+    ensures { λ r. ⌜ r ≡ length (rowsOf d) ⌝ }
+{
+    let blocks = super::blocks::blocks_of(d);
+    let place = d.place;
+    let placed = super::blocks::lines_of_place(place);
+    line_count(blocks) + placed.lines
 }
 
 // Writes the lines of a place, where there is one.

@@ -24,8 +24,9 @@ use Rattle.sheet.specs.Sheet.{textOf}
 use Rattle.sheet.specs.declared.text.SheetAnswer.{SheetAnswer}
 use Rattle.sheet.specs.declared.text.SheetAnswer.the-variants.{Refused, Written}
 use Rattle.sheet.proofs.Answers.{text-long}
-use Rattle.call.specs.Call.{sheetAnswer}
-use Rattle.call.proofs.Answers.{answer-cases}
+use Rattle.call.specs.declared.SheetFor.{SheetFor}
+use Rattle.call.specs.Call.{shows, sheetAnswer}
+use Rattle.call.proofs.Answers.{answer-cases, by-lines}
 use Rattle.words.specs.Words.{situationOf}
 use Rattle.of_words.proofs.HalfTurn.{words-half-turn}
 use Rattle.places_hold.specs.Claims.{Placed, nowhere, ball-at, player-at}
@@ -73,20 +74,28 @@ module _ (kept : Bool) (d e : Decision) (judged : judgedRows e ≡ judgedRows d)
   sheet-turned =
       one-more (subst (λ (n : ℕ). TurnedRow kept (header (length (rowsOf d))) (header n)) (sym (turned-count rows-turned)) (same (omega arith))) rows-turned
 
+  same-lines-follow : length (rowsOf e) ≡ length (rowsOf d)
+  same-lines-follow = turned-count rows-turned
+
   same-text : length (textOf e) ≡ length (textOf d)
-  same-text = text-long e ∙ omega (arith, turned-count rows-turned) ∙ sym (text-long d)
+  same-text = text-long e ∙ omega (arith, same-lines-follow) ∙ sym (text-long d)
 
 -- ---- an accepted situation outside the exception
 judged-same : (s : Situation) (d e : Decision) → ChangedDecision true true (s .wish) d e → judgedRows e ≡ judgedRows d
 judged-same s d e c = simp (c .home .verdicts, c .away .verdicts, c .home .excess, c .away .excess, c .kicker, c .home .leaving, c .away .leaving, c .home .moved, c .away .moved, c .ball)
 
--- what is answered where the situation is accepted
-abbrev answerFor : ℕ → ℕ → SheetAnswer
-answerFor n lent = cond (ltb lent n) (Refused 7) (Written n)
+-- what is answered where the situation is accepted: by how many lines follow the header, of how many bytes the text is, and how many are lent
+abbrev firstFor : SheetFor → ℕ → ℕ
+firstFor to lines = cond (shows to lines) 0 12
 
-accepted-answer : (s : Situation) (xs ys : List Float) (lent : ℕ) → refusalOf s xs ys ≡ 0 → sheetAnswer s xs ys lent ≡ answerFor (length (textOf (decisionOf s xs ys))) lent
-accepted-answer s xs ys lent h =
-    answer-cases s xs ys lent ∙ ap (λ (n : ℕ). cond (eqb n 0) (answerFor (length (textOf (decisionOf s xs ys))) lent) (Refused n)) h
+abbrev answerFor : SheetFor → ℕ → ℕ → ℕ → SheetAnswer
+answerFor to lines n lent = cond (eqb (firstFor to lines) 0) (cond (ltb lent n) (Refused 7) (Written n)) (Refused (firstFor to lines))
+
+accepted-answer : (to : SheetFor) (s : Situation) (xs ys : List Float) (lent : ℕ) → refusalOf s xs ys ≡ 0 → sheetAnswer to s xs ys lent ≡ answerFor to (length (rowsOf (decisionOf s xs ys))) (length (textOf (decisionOf s xs ys))) lent
+accepted-answer to s xs ys lent h =
+    let text = textOf (decisionOf s xs ys) in
+    answer-cases to s xs ys lent
+    ∙ ap (λ (n : ℕ). cond (eqb n 0) (cond (ltb lent (length text)) (Refused 7) (Written (length text))) (Refused n)) (by-lines to s xs ys (shows to (length (rowsOf (decisionOf s xs ys)))) h refl)
 
 told : (s : Situation) (xs ys : List Float) → Placed (decisionOf s xs ys .place) → refusalOf s xs ys ≡ 0 → HalfTurn s xs ys → (Excepted s → ⊥) → TurnedSheet s xs ys
 told s xs ys finite h turn out =
@@ -98,10 +107,10 @@ told s xs ys finite h turn out =
     record {
       lines = lines;
       count = turned-count lines;
-      answer = λ lent.
-          accepted-answer (turned s) (turnedPlaces xs) (turnedPlaces ys) lent (turn .accepted-too)
-          ∙ ap (λ (n : ℕ). answerFor n lent) (same-text (keepsHeading (s .wish)) d e judged finite (c .place))
-          ∙ sym (accepted-answer s xs ys lent h);
+      answer = λ to lent.
+          accepted-answer to (turned s) (turnedPlaces xs) (turnedPlaces ys) lent (turn .accepted-too)
+          ∙ ap₂ (λ (k n : ℕ). answerFor to k n lent) (same-lines-follow (keepsHeading (s .wish)) d e judged finite (c .place)) (same-text (keepsHeading (s .wish)) d e judged finite (c .place))
+          ∙ sym (accepted-answer to s xs ys lent h);
     }
 
 pub sheet-half-turn : SheetHalfTurnClaim

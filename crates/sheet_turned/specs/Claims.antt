@@ -18,6 +18,7 @@ use Rattle.decision.specs.Fit.{Fit}
 use Rattle.decision.specs.HalfTurn.{turned, turnedPlaces, Excepted}
 use Rattle.lines.specs.declared.Row.{Row}
 use Rattle.sheet.specs.Rows.{row, placedValue, sheetRows}
+use Rattle.call.specs.declared.SheetFor.{SheetFor}
 use Rattle.call.specs.Call.{sheetAnswer}
 use Rattle.words.specs.Words.{situationOf}
 use Rattle.places_hold.specs.Claims.{PlaceFloats}
@@ -56,11 +57,11 @@ pub record OneZero (v w : ℕ) : Type 0 where
 abbrev pub OneZeroClaim : Type 0
 OneZeroClaim = (v w : ℕ) → TurnedValue v w → OneZero v w
 
--- of both sheets: their lines, how many there are, and what is answered for so many lent bytes
+-- of both sheets: their lines, how many there are, and what is answered, for the desk or the display, for so many lent bytes
 pub record TurnedSheet (s : Situation) (xs ys : List Float) : Type 0 where
   pub lines : TurnedRows (keepsHeading (s .wish)) (sheetRows (decisionOf s xs ys)) (sheetRows (decisionOf (turned s) (turnedPlaces xs) (turnedPlaces ys)))
   pub count : length (sheetRows (decisionOf (turned s) (turnedPlaces xs) (turnedPlaces ys))) ≡ length (sheetRows (decisionOf s xs ys))
-  pub answer : (lent : ℕ) → sheetAnswer (turned s) (turnedPlaces xs) (turnedPlaces ys) lent ≡ sheetAnswer s xs ys lent
+  pub answer : (to : SheetFor) (lent : ℕ) → sheetAnswer to (turned s) (turnedPlaces xs) (turnedPlaces ys) lent ≡ sheetAnswer to s xs ys lent
 
 -- it is so of every accepted situation outside the exception whose floats are binary32, as every f32 is
 abbrev pub SheetHalfTurnClaim : Type 0

@@ -1,10 +1,11 @@
-//! The command `bench`: the whole call of the C entry beside the original, on the same words in the same run.
+//! The command `bench`: the whole call of the C entry beside the original, on the same words in the same run, and that of the display's entry beside the sheet's.
 //!
 //! The original's side reads the same words, asks the std build for the same items and writes the same text into a buffer that is kept between calls, by divisions
 //! and not by std's formatting. It checks neither the words nor the refusals, which the C entry does.
 
 use crate::decision::Decision;
 use crate::generate::{self, Class};
+use crate::library::For;
 use crate::random::Random;
 use crate::situation::{Pose, Situation, Wish, KICK_OFF, PLAYERS, SET, WORDS};
 use crate::{library, refusals, std_build};
@@ -14,6 +15,7 @@ use std::time::Instant;
 /// Room for every sheet.
 const SHEET: usize = 7470;
 
+#[derive(Clone)]
 struct Input {
     words: [u32; WORDS],
     situation: Situation,
@@ -64,11 +66,18 @@ fn original_read(input: &Input, sheet: &mut [u8]) -> i64 {
 }
 
 fn port(input: &Input, sheet: &mut [u8]) -> i64 {
-    library::sheet(&input.words, &input.situation.xs, &input.situation.ys, sheet)
+    library::sheet(For::Desk, &input.words, &input.situation.xs, &input.situation.ys, sheet)
 }
 
+fn display(input: &Input, sheet: &mut [u8]) -> i64 {
+    library::sheet(For::Display, &input.words, &input.situation.xs, &input.situation.ys, sheet)
+}
+
+/// A call on one input, which writes into the lent bytes.
+type Call = fn(&Input, &mut [u8]) -> i64;
+
 /// Microseconds a call over all inputs.
-fn time(inputs: &[Input], sheet: &mut [u8], call: fn(&Input, &mut [u8]) -> i64) -> f64 {
+fn time(inputs: &[Input], sheet: &mut [u8], call: Call) -> f64 {
     let start = Instant::now();
     let mut folded = 0;
     for input in inputs {
@@ -83,16 +92,14 @@ fn median(mut times: Vec<f64>) -> f64 {
     times[times.len() / 2]
 }
 
-const SIDES: [fn(&Input, &mut [u8]) -> i64; 3] = [port, original, original_read];
-
-/// The medians of the three, taken in turn, so that a slow moment of the machine meets all of them.
-fn in_turn(inputs: &[Input], repeats: usize) -> [f64; 3] {
+/// The medians of the calls, taken in turn, so that a slow moment of the machine meets all of them.
+fn in_turn<const N: usize>(inputs: &[Input], repeats: usize, calls: [Call; N]) -> [f64; N] {
     let mut sheet = vec![0; SHEET];
-    let mut times = [const { Vec::new() }; 3];
+    let mut times = [const { Vec::new() }; N];
     for repeat in 0..repeats {
-        for i in 0..3 {
-            let i = (i + repeat) % 3;
-            times[i].push(time(inputs, &mut sheet, SIDES[i]));
+        for i in 0..N {
+            let i = (i + repeat) % N;
+            times[i].push(time(inputs, &mut sheet, calls[i]));
         }
     }
     times.map(median)
@@ -100,11 +107,29 @@ fn in_turn(inputs: &[Input], repeats: usize) -> [f64; 3] {
 
 fn report(name: &str, situations: &[Situation], repeats: usize, limit: Option<f64>) -> bool {
     let accepted: Vec<Input> = situations.iter().filter(|s| refusals::refusal(s).is_none()).map(input).collect();
-    let [ours, rust, read] = in_turn(&accepted, repeats);
+    let [ours, rust, read] = in_turn(&accepted, repeats, [port, original, original_read]);
     let limit_text = limit.map_or(String::new(), |l| format!(" (limit {l})"));
     println!("{name}: {ours:.2} us, the original {rust:.2} us, ratio {:.2}{limit_text}", ours / rust);
     println!("    the original without reading the words: {read:.2} us, ratio {:.2}", ours / read);
+    report_display(&accepted, repeats);
     limit.is_none_or(|l| ours / rust <= l)
+}
+
+/// How many situations the display shows, and the time of its entry beside the sheet's: over all of them, and over those that it shows, since no sheet is written for
+/// the others.
+fn report_display(accepted: &[Input], repeats: usize) {
+    let mut sheet = vec![0; SHEET];
+    let shown: Vec<Input> = accepted.iter().filter(|input| display(input, &mut sheet) != -12).cloned().collect();
+    println!("    for the display: {} shown, {} refused with 12", shown.len(), accepted.len() - shown.len());
+    let groups = match shown.len() {
+        0 => vec![],
+        n if n == accepted.len() => vec![("all", accepted)],
+        _ => vec![("all", accepted), ("those shown", &shown)],
+    };
+    for (which, inputs) in groups {
+        let [desk, display] = in_turn(inputs, repeats, [port, display]);
+        println!("    {which}: referee_sheet {desk:.2} us, referee_display {display:.2} us, ratio {:.2}", display / desk);
+    }
 }
 
 /// A kick-off in Ready or Set, eleven players on each side in their own halves or near the circle.

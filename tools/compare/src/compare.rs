@@ -1,10 +1,13 @@
-//! The comparison of `referee_sheet` and `referee_place` with the two builds of the original.
+//! The comparison of situations: the sheet for the desk and for the display (sheet.rs) and the place (place.rs) with the exact build, both builds with each
+//! other, and the half turn.
 
 use crate::decision::Decision;
 use crate::generate::{self, Class, CLASSES};
+use crate::library::For;
 use crate::random::Random;
+use crate::sheet::{self, Sheet, ROOM, SHOWN};
 use crate::situation::{values, Situation, WORDS};
-use crate::{cases, entries, exact_build, layout, library, mixed_build, place, refusals, slip_build, slips, std_build, turn};
+use crate::{cases, entries, exact_build, layout, mixed_build, place, refusals, slip_build, slips, std_build, turn};
 use std::collections::{BTreeMap, BTreeSet};
 
 /// What the oracle answers: a refusal, or a decision.
@@ -29,24 +32,9 @@ fn decide(s: &Situation) -> Decision {
     }
 }
 
-/// The answer as the number that the entry gives and the text that it writes.
-pub fn entry(answer: &Answer) -> (i64, String) {
-    match answer {
-        Answer::Refused(n) => (-n, String::new()),
-        Answer::Decided(decision) => {
-            let text = decision.sheet();
-            (text.len() as i64, text)
-        }
-    }
-}
-
 /// Bytes that no answer holds, different from place to place.
 fn filler(i: usize) -> u8 {
     0x80 | (i as u8).wrapping_mul(37)
-}
-
-fn call(words: &[u32], s: &Situation, room: usize, number: i64, text: &str) -> bool {
-    guarded(room, number, text, |lent| library::sheet(words, &s.xs, &s.ys, lent))
 }
 
 /// Calls an entry with `room` bytes between two guards. Says whether it gives `number` and writes exactly `text`, and keeps the rest.
@@ -68,23 +56,24 @@ pub fn guarded(room: usize, number: i64, text: &str, entry: impl FnOnce(&mut [u8
         })
 }
 
-/// The port's own answer, for a report.
-fn port(s: &Situation) -> (i64, String) {
-    let mut lent = vec![0; 8192];
-    let answer = library::sheet(&s.to_words(None), &s.xs, &s.ys, &mut lent);
-    let length = usize::try_from(answer).unwrap_or(0).min(lent.len());
-    (answer, String::from_utf8_lossy(&lent[..length]).into_owned())
-}
+const HALF_TURN: &str = "the half turn";
+const HALF_TURN_OF_SHEETS: &str = "the half turn of the sheets";
+const HALF_TURN_FOR_DISPLAY: &str = "the half turn for the display";
+
+/// The numbers of lines on both sides of the display's limit, and from how many turns on a run must have met them.
+const AT_LIMIT: [usize; 2] = [SHOWN, SHOWN + 1];
+const LONG_RUN: u64 = 100_000;
 
 #[derive(Default)]
 pub struct Tally {
     counts: BTreeMap<String, u64>,
     pub differences: u64,
-    pub counterexamples: u64,
-    /// To the half turn of the sheets.
-    sheet_counterexamples: u64,
+    /// By what they are counterexamples to.
+    counterexamples: BTreeMap<&'static str, u64>,
     /// What failed first.
     first: Option<&'static str>,
+    /// How many of the compared sheets have so many lines after the header, without a place and with one.
+    lines: BTreeMap<usize, [u64; 2]>,
     std_shown: BTreeMap<String, Situation>,
     combinations: BTreeSet<[u8; 6]>,
     goals: BTreeSet<[u8; 9]>,
@@ -105,6 +94,24 @@ impl Tally {
             6 * 5 * 8 * 3 * 6 * 2
         );
         println!("{:>12}  combinations of restart, invalid goals, ends and ball judgment", self.goals.len());
+        self.print_lines();
+    }
+
+    /// How many sheets are at the display's limit, and how many on either side of it.
+    fn print_lines(&self) {
+        for lines in AT_LIMIT {
+            let [without, with] = self.lines.get(&lines).copied().unwrap_or_default();
+            println!("{:>12}  sheets of exactly {lines} lines after the header, {with} of them with a place", without + with);
+        }
+        let shown: u64 = self.lines.range(..=SHOWN).flat_map(|(_, counts)| counts).sum();
+        let refused: u64 = self.lines.range(SHOWN + 1..).flat_map(|(_, counts)| counts).sum();
+        println!("{shown:>12}  sheets shown by the display");
+        println!("{refused:>12}  sheets refused for the display, 12");
+    }
+
+    /// The numbers of lines at the display's limit that no sheet without a place has, or no sheet with one.
+    fn missing(&self) -> Vec<usize> {
+        AT_LIMIT.into_iter().filter(|lines| self.lines.get(lines).is_none_or(|counts| counts.contains(&0))).collect()
     }
 
     /// Counts a difference in what an entry gives. Says whether it is to be printed.
@@ -115,21 +122,17 @@ impl Tally {
         self.differences <= 3 && !slips::any()
     }
 
-    fn fail(&mut self, kind: &str, s: &Situation, answer: &Answer) {
-        if self.differs("the sheet", kind) {
-            println!("DIFFERENCE in {kind}");
-            let shrunk = shrink(s, |t| entry(&exact(t)) != port(t));
-            if entry(&exact(&shrunk)) != port(&shrunk) {
-                report(&shrunk, &entry(&exact(&shrunk)), "the exact build");
-            } else {
-                report(s, &entry(answer), "the exact build");
-            }
-        }
+    /// Counts a counterexample. Says whether it is to be printed.
+    fn contradicts(&mut self, what: &'static str) -> bool {
+        let count = self.counterexamples.entry(what).or_default();
+        *count += 1;
+        self.first.get_or_insert(what);
+        *count <= 2 && !slips::any()
     }
 }
 
 /// What differs from case A without players and with the ball at the centre, word by word.
-fn as_changes(s: &Situation) -> String {
+pub fn as_changes(s: &Situation) -> String {
     let mut text = String::new();
     for (i, (word, plain)) in s.to_words(None).into_iter().zip(plain().to_words(None)).enumerate() {
         if word != plain {
@@ -150,14 +153,6 @@ pub fn plain() -> Situation {
     s.players = [[crate::situation::NOBODY; 20]; 2];
     s.ball = [0.0, 0.0, 0.125];
     s
-}
-
-fn report(s: &Situation, (number, text): &(i64, String), name: &str) {
-    print!("case A without players and with the ball at the centre, but for\n{}", as_changes(s));
-    println!("words and earlier places, as judge reads them:\n{}", as_numbers(s));
-    println!("{name} answers {number}:\n{text}");
-    let (number, text) = port(s);
-    println!("the port answers {number}:\n{text}");
 }
 
 /// The words, then the number of xs and their patterns, then of ys and theirs.
@@ -248,51 +243,17 @@ pub fn check(random: &mut Random, s: &Situation, class: &str, tally: &mut Tally)
     let noise = random.coin();
     let words = s.to_words(noise.then_some(&mut *random));
     let answer = exact(s);
-    let (number, text) = entry(&answer);
+    let sheet = Sheet::new(s, &answer);
     let spare = random.within(1, 200) as usize;
-    if !call(&words, s, text.len() + spare, number, &text) {
-        tally.fail("a sheet with room to spare", s, &answer);
+    if !sheet.check(&words, spare, tally) || !place::check(random, &words, s, &answer, tally) {
         return;
     }
-    if !place::check(random, &words, s, &answer, tally) {
-        return;
-    }
-    let calls = random.within(0, 3) == 0;
-    if calls {
-        let mut ways = vec![("a sheet without room", 0, if number < 0 { number } else { -7 })];
-        if number > 0 {
-            ways.push(("a sheet with one byte too few", text.len() - 1, -7));
-            ways.push(("a sheet with too little room", random.within(0, text.len() as i64 - 1) as usize, -7));
+    if random.within(0, 3) == 0 {
+        sheet.check_rooms(random, &words, tally);
+        for (kind, words) in malformed(random, words) {
+            sheet.check_malformed(kind, &words, tally);
+            place::check_malformed(random, kind, &words, s, &answer, tally);
         }
-        for (kind, room, number) in ways {
-            tally.add(format!("calls: {kind}"));
-            if !call(&words, s, room, number, "") {
-                tally.fail(kind, s, &answer);
-            }
-        }
-        tally.add("calls: a sheet with exact room");
-        if !call(&words, s, text.len(), number, &text) {
-            tally.fail("a sheet with exact room", s, &answer);
-        }
-        // A word outside its column; a slice of another length.
-        let mut bad = words;
-        let columns: Vec<usize> = (0..WORDS).filter(|&i| values(i) < 1 << 32).collect();
-        let i = random.pick(&columns);
-        bad[i] = random.pick(&[values(i) as u32, values(i) as u32 + 1, u32::MAX, 1 << 31, values(i) as u32 | 1 << 16]);
-        tally.add("calls: a word outside its column");
-        if !call(&bad, s, 8192, -100, "") {
-            tally.fail(&format!("a bad word {i}, {}", bad[i]), s, &answer);
-        }
-        place::check_malformed(random, "a word outside its column", &bad, s, &answer, tally);
-        let mut long = words.to_vec();
-        long.resize(WORDS + 1 + random.within(0, 9) as usize, 0);
-        let short = random.within(0, WORDS as i64 - 1) as usize;
-        tally.add("calls: too many or too few words");
-        if !call(&long, s, 8192, -100, "") || !call(&words[..short], s, 8192, -100, "") {
-            tally.fail("a wrong number of words", s, &answer);
-        }
-        place::check_malformed(random, "too many words", &long, s, &answer, tally);
-        place::check_malformed(random, "too few words", &words[..short], s, &answer, tally);
         place::check_few(&words, s, &answer, tally);
     }
     let decision = match answer {
@@ -320,39 +281,55 @@ pub fn check(random: &mut Random, s: &Situation, class: &str, tally: &mut Tally)
         tally.std_shown.entry(items.join(" and ")).or_insert_with(|| s.clone());
     }
 
-    check_turned(s, &decision, &text, tally);
+    check_turned(s, &decision, &sheet.text, tally);
 }
 
-/// The half turn: of the original's decisions, and of the port's sheets. The first sheet is the text, which the port has written.
+/// The words made none of a situation: one is outside its column, or the slice has another length.
+fn malformed(random: &mut Random, words: [u32; WORDS]) -> [(&'static str, Vec<u32>); 3] {
+    let columns: Vec<usize> = (0..WORDS).filter(|&i| values(i) < 1 << 32).collect();
+    let i = random.pick(&columns);
+    let mut bad = words.to_vec();
+    bad[i] = random.pick(&[values(i) as u32, values(i) as u32 + 1, u32::MAX, 1 << 31, values(i) as u32 | 1 << 16]);
+    let mut long = words.to_vec();
+    long.resize(WORDS + 1 + random.within(0, 9) as usize, 0);
+    let short = words[..random.within(0, WORDS as i64 - 1) as usize].to_vec();
+    [("a word outside its column", bad), ("too many words", long), ("too few words", short)]
+}
+
+/// The half turn: of the original's decisions, of the port's sheets, and of its answers for the display. The first sheet is the text, which the
+/// port has written.
 fn check_turned(s: &Situation, decision: &Decision, text: &str, tally: &mut Tally) {
     let turned = turn::turned(s);
     let equal = turn::same(s.wish, decision, &decide(&turned));
     let excepted = turn::excepted(s);
     tally.add(format!("turned: {}, {}", if excepted { "excepted" } else { "not excepted" }, if equal { "equal" } else { "unequal" }));
-    if equal == excepted {
-        tally.counterexamples += 1;
-        tally.first.get_or_insert("the half turn");
-        if tally.counterexamples <= 2 && !slips::any() {
-            println!("COUNTEREXAMPLE to the half turn:\n{}", as_numbers(s));
-        }
+    if equal == excepted && tally.contradicts(HALF_TURN) {
+        println!("COUNTEREXAMPLE to {HALF_TURN}:\n{}", as_numbers(s));
     }
     if excepted {
         return;
     }
-    let (number, turned_text) = port(&turned);
+    let (number, turned_text) = sheet::port(For::Desk, &turned, ROOM);
     let equal = number > 0 && turn::same_sheets(s.wish, text, &turned_text);
     tally.add(format!("turned sheets: {}", if equal { "equal" } else { "unequal" }));
-    if !equal {
-        tally.sheet_counterexamples += 1;
-        tally.first.get_or_insert("the half turn of the sheets");
-        if tally.sheet_counterexamples <= 2 && !slips::any() {
-            println!("COUNTEREXAMPLE to the half turn of the sheets:\n{}\n{text}turned, {number}:\n{turned_text}", as_numbers(s));
-        }
+    if !equal && tally.contradicts(HALF_TURN_OF_SHEETS) {
+        println!("COUNTEREXAMPLE to {HALF_TURN_OF_SHEETS}:\n{}\n{text}turned, {number}:\n{turned_text}", as_numbers(s));
+    }
+    check_turned_for_display(s, &turned, text.len(), tally);
+}
+
+/// The port's answers for the display of both situations, with as many bytes lent: exact room, and one byte too few.
+fn check_turned_for_display(s: &Situation, turned: &Situation, length: usize, tally: &mut Tally) {
+    let [here, there] = [s, turned].map(|t| sheet::display_answers(t, [length, length - 1]));
+    tally.add(format!("turned for the display: {}", if here == there { "equal" } else { "unequal" }));
+    if here != there && tally.contradicts(HALF_TURN_FOR_DISPLAY) {
+        println!("COUNTEREXAMPLE to {HALF_TURN_FOR_DISPLAY}:\n{}\n{here:?}, turned {there:?}", as_numbers(s));
     }
 }
 
 /// Counts what the decisions hold, so that a class that shows nothing is seen.
 fn describe(d: &Decision, tally: &mut Tally) {
+    tally.lines.entry(d.rows().len()).or_default()[usize::from(d.place.is_some())] += 1;
     for verdict in 1..=3 {
         if d.verdicts.iter().flatten().any(|&v| v == verdict) {
             tally.add(format!("decisions with a verdict {verdict}"));
@@ -475,7 +452,7 @@ pub fn run(count: u64, seed: u64) -> bool {
     for case in cases::cases() {
         if !case.holds(&decide(&case.situation)) {
             println!("the oracle does not give the documents' answer: {}", case.name);
-            tally.differences += 1;
+            tally.differs("the documents' cases", case.name);
         }
         check(&mut random, &case.situation, "cases", &mut tally);
     }
@@ -498,9 +475,14 @@ pub fn run(count: u64, seed: u64) -> bool {
         println!("exact:\n{}std:\n{}", exact_build::oracle::decide(&s).sheet(), std_build::oracle::decide(&s).sheet());
     }
     println!("differences from the exact build: {}", tally.differences);
-    println!("counterexamples to the half turn: {}", tally.counterexamples);
-    println!("counterexamples to the half turn of the sheets: {}", tally.sheet_counterexamples);
-    tally.first.is_none()
+    for what in [HALF_TURN, HALF_TURN_OF_SHEETS, HALF_TURN_FOR_DISPLAY] {
+        println!("counterexamples to {what}: {}", tally.counterexamples.get(what).unwrap_or(&0));
+    }
+    let missing = tally.missing();
+    if !missing.is_empty() {
+        println!("lines after the header that never came, with a place or without one: {missing:?}");
+    }
+    tally.first.is_none() && (missing.is_empty() || count < LONG_RUN)
 }
 
 /// Switches each slip on and looks for a situation at which the comparison then fails.
@@ -537,8 +519,8 @@ pub fn until(count: u64, seed: u64) -> bool {
     let mut random = Random::new(seed);
     let same = |s: &Situation| {
         let (words, answer) = (s.to_words(None), exact(s));
-        let (number, text) = entry(&answer);
-        call(&words, s, text.len() + 45, number, &text) && place::agrees(&words, s, &answer, 1)
+        let sheet = Sheet::new(s, &answer);
+        sheet.agrees(For::Desk, &words, sheet.text.len() + 45) && place::agrees(&words, s, &answer, 1)
     };
     (0..count).all(|turn| drawn(&mut random, turn).iter().all(|(_, s)| same(s))) && entries::candidates_until(count / 10, seed)
 }
@@ -556,21 +538,22 @@ pub fn from_numbers(text: &str) -> Situation {
     Situation::from_words(&numbers[..WORDS], xs, ys).expect("words of a situation")
 }
 
-/// Reads a situation from standard input, as the program judge does, and prints the sheets of both builds and of the port, and the place as
-/// decided.
+/// Reads a situation from standard input, as the program judge does, and prints the sheets of both builds and of the port, the answers for the
+/// display, and the place as decided.
 pub fn judge() -> bool {
     let mut text = String::new();
     std::io::Read::read_to_string(&mut std::io::stdin(), &mut text).expect("standard input is text");
     let s = from_numbers(&text);
     let answer = exact(&s);
-    let (number, text) = entry(&answer);
-    println!("the exact build answers {number}:\n{text}");
+    let sheet = Sheet::new(&s, &answer);
+    let [(desk, port_desk), (display, port_display)] = For::BOTH.map(|to| (sheet.expected(to, ROOM), sheet::port(to, &s, ROOM)));
+    println!("the exact build answers {}:\n{}", desk.0, desk.1);
     if refusals::refusal(&s).is_none() {
         println!("the std build:\n{}", std_build::oracle::decide(&s).sheet());
     }
-    let (port_number, port_text) = port(&s);
-    println!("the port answers {port_number}:\n{port_text}");
+    println!("the port answers {}:\n{}", port_desk.0, port_desk.1);
+    println!("for the display the exact build answers {}, the port {}", display.0, port_display.0);
     let (place, port_place) = (place::expected(&answer, place::WORDS), place::port(&s));
     println!("the place as decided, by the exact build: {place:?}\nby the port: {port_place:?}");
-    (number, text) == (port_number, port_text) && place == port_place
+    desk == port_desk && display == port_display && place == port_place
 }

@@ -1,6 +1,7 @@
 //! The comparison of the other entries: whether words are a situation, candidates and leaves.
 
 use crate::generate::{moved, near_halfway};
+use crate::library::For;
 use crate::random::Random;
 use crate::{exact, exact_build, leaves, library, slip_build, slips, std_build};
 use std::f32::consts::PI;
@@ -58,7 +59,8 @@ fn greatest(i: usize) -> u32 {
     }
 }
 
-/// Words within their columns, of which up to three are moved: the first outside, and that the sheet is refused with -100 exactly where one is.
+/// Words within their columns, of which up to three are moved: the first outside, and that the sheet is refused with -100 exactly where one is, for the desk
+/// and for the display.
 pub fn compare_check(count: u64, seed: u64) -> bool {
     let mut random = Random::new(seed);
     let (mut differences, mut outside, mut other_lengths) = (0u64, 0u64, 0u64);
@@ -85,11 +87,15 @@ pub fn compare_check(count: u64, seed: u64) -> bool {
         outside += u64::from(expected > 0);
         other_lengths += u64::from(expected < 0);
         let told = library::check(&words);
-        let sheet = library::sheet(&words, &[], &[], &mut []);
-        if told != expected || (sheet == -100) != (expected != 0) {
+        let sheets = For::BOTH.map(|to| library::sheet(to, &words, &[], &[], &mut []));
+        if told != expected || sheets.into_iter().any(|sheet| (sheet == -100) != (expected != 0)) {
             differences += 1;
             if differences <= 3 {
-                println!("DIFFERENCE: {} words, referee_check {told}, referee_sheet {sheet}, not {expected}", words.len());
+                let [desk, display] = sheets;
+                println!(
+                    "DIFFERENCE: {} words, referee_check {told}, referee_sheet {desk}, referee_display {display}, not {expected}",
+                    words.len()
+                );
             }
         }
     }

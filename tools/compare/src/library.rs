@@ -11,6 +11,16 @@ unsafe extern "C" {
         sheet: *mut u8,
         sheet_len: usize,
     ) -> i64;
+    fn referee_display(
+        words: *const u32,
+        words_len: usize,
+        xs: *const f32,
+        xs_len: usize,
+        ys: *const f32,
+        ys_len: usize,
+        sheet: *mut u8,
+        sheet_len: usize,
+    ) -> i64;
     fn referee_coach(
         words: *const u32,
         words_len: usize,
@@ -42,20 +52,40 @@ unsafe extern "C" {
     fn referee_rem_euclid(x: f32, y: f32) -> f32;
 }
 
-pub fn sheet(words: &[u32], xs: &[f32], ys: &[f32], sheet: &mut [u8]) -> i64 {
-    // SAFETY: each pointer comes with the length of its slice and is aligned, of an empty slice too; the borrows keep what is
-    // written apart from what is read.
-    unsafe {
-        referee_sheet(words.as_ptr(), words.len(), xs.as_ptr(), xs.len(), ys.as_ptr(), ys.len(), sheet.as_mut_ptr(), sheet.len())
+/// Whom a sheet is for; each has an entry of its own.
+#[derive(Clone, Copy, Debug, PartialEq)]
+pub enum For {
+    Desk,
+    Display,
+}
+
+type SheetEntry = unsafe extern "C" fn(*const u32, usize, *const f32, usize, *const f32, usize, *mut u8, usize) -> i64;
+
+impl For {
+    pub const BOTH: [For; 2] = [For::Desk, For::Display];
+
+    fn entry(self) -> SheetEntry {
+        match self {
+            For::Desk => referee_sheet,
+            For::Display => referee_display,
+        }
     }
 }
 
+pub fn sheet(to: For, words: &[u32], xs: &[f32], ys: &[f32], sheet: &mut [u8]) -> i64 {
+    let entry = to.entry();
+    // SAFETY: each pointer comes with the length of its slice and is aligned, of an empty slice too; the borrows keep what is
+    // written apart from what is read.
+    unsafe { entry(words.as_ptr(), words.len(), xs.as_ptr(), xs.len(), ys.as_ptr(), ys.len(), sheet.as_mut_ptr(), sheet.len()) }
+}
+
 /// The same with `room` bytes of the vector's capacity, which hold nothing yet; the vector then holds what was written.
-pub fn sheet_fresh(words: &[u32], xs: &[f32], ys: &[f32], lent: &mut Vec<u8>, room: usize) -> i64 {
+pub fn sheet_fresh(to: For, words: &[u32], xs: &[f32], ys: &[f32], lent: &mut Vec<u8>, room: usize) -> i64 {
     assert!(lent.is_empty() && room <= lent.capacity());
+    let entry = to.entry();
     // SAFETY: as above; the entry writes the bytes that it counts, so that these are initialised.
     unsafe {
-        let n = referee_sheet(words.as_ptr(), words.len(), xs.as_ptr(), xs.len(), ys.as_ptr(), ys.len(), lent.as_mut_ptr(), room);
+        let n = entry(words.as_ptr(), words.len(), xs.as_ptr(), xs.len(), ys.as_ptr(), ys.len(), lent.as_mut_ptr(), room);
         lent.set_len(usize::try_from(n).unwrap_or(0));
         n
     }

@@ -15,6 +15,7 @@ mod place;
 mod reading;
 mod records;
 mod refusals;
+mod sheet;
 mod situation;
 mod slips;
 mod stack;
@@ -48,15 +49,15 @@ mod random;
 use std::process::exit;
 
 const USAGE: &str = "\
-compare [COUNT] [SEED]             compares COUNT situations (100000) of the seed (1)
+compare [COUNT] [SEED]             compares referee_sheet, referee_display and referee_place, COUNT situations (100000) of the seed (1)
 compare check [COUNT] [SEED]       compares referee_check
 compare candidates [COUNT] [SEED]  compares referee_candidates
 compare leaves [COUNT] [SEED]      compares the leaves
 compare coach [COUNT] [SEED]       compares referee_coach, COUNT situations (100000) of the seed (1)
 compare motion                     tries every distance at which motion could turn on std's hypot
-compare judge                      reads one situation as the program judge does and prints the three sheets and the place
+compare judge                      reads one situation as the program judge does and prints the three sheets, the answers for the display and the place
 compare until COUNT SEED           compares until the first difference
-compare bench [SEED] [REPEATS]     times the whole call beside the original
+compare bench [SEED] [REPEATS]     times the whole call beside the original, and the display's beside it
 compare memory [COUNT] [SEED]      calls the entries for valgrind
 compare stack [COUNT] [SEED]       measures the stack that a call takes
 compare slips [COUNT] [SEED]       looks for a situation that shows each slip, COUNT at most

@@ -3,40 +3,32 @@
 
 use crate::coach::{self, Judged, Table};
 use crate::generate::{self, CLASSES};
-use crate::library::Asked;
+use crate::library::{Asked, For};
 use crate::random::Random;
 use crate::reading::{self, reader};
+use crate::sheet::{Sheet, Told};
 use crate::situation::{Situation, WORDS};
-use crate::{compare, exact_build, library, place, refusals};
+use crate::{compare, exact_build, library, place};
 
-/// The number and the text that the exact build gives.
-fn expected(s: &Situation) -> (i64, String) {
-    if let Some(n) = refusals::refusal(s) {
-        return (-n, String::new());
-    }
-    let text = exact_build::oracle::decide(s).sheet();
-    (text.len() as i64, text)
-}
-
-/// Calls the entry with `room` fresh bytes. Says whether it gives the number and, where it writes, the text.
-fn call(words: &[u32], s: &Situation, room: usize, number: i64, text: &str) -> bool {
+/// Calls the sheet's entry or the display's with `room` fresh bytes. Says whether it gives the number and writes exactly the text.
+fn call(to: For, words: &[u32], s: &Situation, room: usize, (number, text): Told) -> bool {
     let words: Box<[u32]> = words.into();
     let (xs, ys): (Box<[f32]>, Box<[f32]>) = (s.xs.as_slice().into(), s.ys.as_slice().into());
     let mut lent: Vec<u8> = Vec::with_capacity(room);
-    let answer = library::sheet_fresh(&words, &xs, &ys, &mut lent, room);
-    answer == number && (number < 0 || lent == text.as_bytes())
+    let answer = library::sheet_fresh(to, &words, &xs, &ys, &mut lent, room);
+    answer == number && lent == text.as_bytes()
 }
 
+/// The sheet for the desk and for the display with room to spare, with exact room and with one byte too few, and too few words.
 fn sheets(s: &Situation, random: &mut Random) -> bool {
-    let (number, text) = expected(s);
-    let words = s.to_words(None);
-    let room = text.len();
+    let (words, sheet) = (s.to_words(None), Sheet::new(s, &compare::exact(s)));
+    let room = sheet.text.len();
     let spare = random.within(1, 500) as usize;
-    let too_few = if number < 0 { number } else { -7 };
-    call(&words, s, room + spare, number, &text)
-        && call(&words, s, room, number, &text)
-        && call(&words, s, room.saturating_sub(1), too_few, "")
-        && call(&words[..random.within(0, WORDS as i64 - 1) as usize], s, room, -100, "")
+    let short = &words[..random.within(0, WORDS as i64 - 1) as usize];
+    For::BOTH.into_iter().all(|to| {
+        [room + spare, room, room.saturating_sub(1)].into_iter().all(|room| call(to, &words, s, room, sheet.expected(to, room)))
+            && call(to, short, s, room, (-100, String::new()))
+    })
 }
 
 /// Calls the coach's entry with `room` fresh bytes. Says whether it gives the number and writes exactly the text.
@@ -125,6 +117,6 @@ pub fn run(count: u64, seed: u64) -> bool {
         let agree = [sheets(&s, &mut random), others(&mut random), lines(&table, &s), places(&s), readings(&s, turn)];
         differences += agree.into_iter().filter(|agrees| !agrees).count() as u64;
     }
-    println!("memory: {count} situations, four calls of the sheet, two of the candidates, up to five of the coach, five of the place and readings of up to five texts for each, {differences} differences");
+    println!("memory: {count} situations, four calls of the sheet, four of the display, two of the candidates, up to five of the coach, five of the place and readings of up to five texts for each, {differences} differences");
     differences == 0
 }

@@ -6,6 +6,7 @@ pub mod reader;
 mod sheets;
 mod slips;
 
+use crate::library::For;
 use crate::random::Random;
 use crate::situation::Situation;
 use crate::{compare, library};
@@ -37,7 +38,7 @@ struct Text {
 /// The port's sheet, where the situation is not refused.
 pub fn sheet(s: &Situation) -> Option<Vec<u8>> {
     let mut lent = vec![0; SHEET];
-    let length = usize::try_from(library::sheet(&s.to_words(None), &s.xs, &s.ys, &mut lent)).ok()?;
+    let length = usize::try_from(library::sheet(For::Desk, &s.to_words(None), &s.xs, &s.ys, &mut lent)).ok()?;
     lent.truncate(length);
     Some(lent)
 }

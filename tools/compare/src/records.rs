@@ -4,7 +4,9 @@ mod edges;
 mod lines;
 mod pairs;
 
+use crate::library::For;
 use crate::random::Random;
+use crate::sheet::Sheet;
 use crate::situation::{Situation, WORDS};
 use crate::{cases, compare, entries, slips};
 use std::collections::{BTreeMap, BTreeSet};
@@ -64,15 +66,11 @@ impl Question {
 
 /// What is written into the lent bytes: the sheet, or the line of a refusal, or nothing where that has no room either.
 fn sheet_answer(s: &Situation, room: usize) -> String {
-    let (number, text) = compare::entry(&compare::exact(s));
-    if number >= 0 && text.len() <= room {
+    let (number, text) = Sheet::new(s, &compare::exact(s)).expected(For::Desk, room);
+    if number >= 0 || room < REFUSED_LINE {
         return text;
     }
-    let refusal = if number < 0 { -number } else { 7 };
-    if room < REFUSED_LINE {
-        return String::new();
-    }
-    format!("refused {refusal}\n")
+    format!("refused {}\n", -number)
 }
 
 /// The number of candidates and their patterns, or 0 and the refusal. Which NaN comes out is left open: it is written as one pattern.
@@ -101,7 +99,7 @@ pub struct List {
 impl List {
     /// Adds a situation with the room that its sheet needs, or some more.
     fn add(&mut self, group: &'static str, why: impl Into<String>, s: &Situation) {
-        let needed = compare::entry(&compare::exact(s)).1.len().max(REFUSED_LINE);
+        let needed = Sheet::new(s, &compare::exact(s)).text.len().max(REFUSED_LINE);
         let spare = [0, 1, 45, 100][self.records.len() % 4];
         self.add_question(group, why, Question::of(s), needed + spare);
     }
@@ -124,8 +122,8 @@ impl List {
     }
 }
 
-/// Slips of the comparison itself, and of what no sheet has: no answer of the oracle shows them.
-const NOT_OF_ANSWERS: [usize; 13] = [
+/// Slips of the comparison itself, of what no sheet has, and of what the display refuses: no answer of the oracle for the desk shows them.
+const NOT_OF_ANSWERS: [usize; 18] = [
     slips::PLACED_WITHOUT_SIGN,
     slips::WRITE_AFTER,
     slips::WRITE_ON_REFUSAL,
@@ -139,6 +137,11 @@ const NOT_OF_ANSWERS: [usize; 13] = [
     slips::WORDS_ON_REFUSAL,
     slips::WORDS_WITHOUT_PLACE,
     slips::REFUSAL_BEFORE_LENGTH,
+    slips::ELEVEN_SHOWN,
+    slips::THIRTEEN_SHOWN,
+    slips::HEADER_COUNTED,
+    slips::SEVEN_BEFORE_TWELVE,
+    slips::TWELVE_BEFORE_FIVE,
 ];
 
 /// Adds a situation for each slip that no record shows, and says how many records show each.

@@ -1,7 +1,7 @@
-//! Deliberate slips. Each is off unless it is the one that is switched on. Those up to PLACED_WITHOUT_SIGN, and from RADIUS_NOT_TAKEN on, are in
-//! the third build, into whose text build.rs puts the calls; the others are in the calls of the entries, in the refusals, in the half turn and
-//! where a place becomes rows of the sheet. Those of the coach's lines have a list of their own: they are where the tests record themselves
-//! (told.rs) and where the lines are made (coach.rs).
+//! Deliberate slips. Each is off unless it is the one that is switched on. Those up to PLACED_WITHOUT_SIGN, and from RADIUS_NOT_TAKEN to
+//! RADIUS_TO_EDGE_FIRST, are in the third build, into whose text build.rs puts the calls; the others are in the calls of the entries, in the
+//! refusals, those of the lines and the lent bytes among them (sheet.rs), in the half turn and where a place becomes rows of the sheet. Those of
+//! the coach's lines have a list of their own: they are where the tests record themselves (told.rs) and where the lines are made (coach.rs).
 
 use std::cmp::Ordering;
 use std::sync::atomic::{AtomicUsize, Ordering::Relaxed};
@@ -54,9 +54,15 @@ pub const RADIUS_HALVED: usize = 42;
 pub const RADIUS_FROM_X_ALONE: usize = 43;
 pub const RADIUS_FROM_Y_ALONE: usize = 44;
 pub const RADIUS_TO_EDGE_FIRST: usize = 45;
+pub const ELEVEN_SHOWN: usize = 46;
+pub const THIRTEEN_SHOWN: usize = 47;
+pub const HEADER_COUNTED: usize = 48;
+pub const SEVEN_BEFORE_TWELVE: usize = 49;
+pub const TWELVE_BEFORE_FIVE: usize = 50;
+pub const DESK_REFUSED: usize = 51;
 
 /// What each slip does; the first five are document 01's.
-pub const SLIPS: [&str; 46] = [
+pub const SLIPS: [&str; 52] = [
     "squares in f32 compared instead of the rounded distance",
     "the deepest defender named first",
     "the first of equal clearances kept",
@@ -103,6 +109,12 @@ pub const SLIPS: [&str; 46] = [
     "the radius taken from x alone",
     "the radius taken from y alone",
     "the radius added to the edge of the carpet first, which rounds elsewhere",
+    "eleven lines shown by the display",
+    "thirteen lines shown by the display",
+    "the header counted among the twelve lines",
+    "7 told before 12",
+    "12 told before 5",
+    "the desk refused with 12 too",
 ];
 
 /// The slips that no sheet can show: what is decided otherwise is the sign of a zero.

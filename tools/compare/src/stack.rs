@@ -1,9 +1,9 @@
-//! The command `stack`: how many bytes of stack a call of the sheet's entry takes, one of the coach's, one of the place's and one of each that reads a sheet. The call runs on a
-//! stack of its own that was filled with a pattern before; what is no longer the pattern was used. A use that happens to write the pattern at the far end would not be seen.
+//! The command `stack`: how many bytes of stack a call of the sheet's entry takes, one of the display's, the coach's and the place's, and one of each that reads a sheet. The call runs
+//! on a stack of its own that was filled with a pattern before; what is no longer the pattern was used. A use that happens to write the pattern at the far end would not be seen.
 
 use crate::exact_build::oracle::settled;
 use crate::generate::{self, CLASSES};
-use crate::library::{self, Asked};
+use crate::library::{self, Asked, For};
 use crate::random::Random;
 use crate::reading::{self, reader};
 use crate::refusals;
@@ -29,7 +29,13 @@ struct Call<'a> {
 extern "C" fn run_call(call: *mut Call) {
     // SAFETY: `on_stack` hands over a call that it has alone.
     let call = unsafe { &mut *call };
-    call.answer = library::sheet(call.words, call.xs, call.ys, call.sheet);
+    call.answer = library::sheet(For::Desk, call.words, call.xs, call.ys, call.sheet);
+}
+
+extern "C" fn run_display(call: *mut Call) {
+    // SAFETY: as above.
+    let call = unsafe { &mut *call };
+    call.answer = library::sheet(For::Display, call.words, call.xs, call.ys, call.sheet);
 }
 
 extern "C" fn run_coach(call: *mut Call) {
@@ -85,9 +91,15 @@ pub fn run(count: u64, seed: u64) -> bool {
     let mut stack = vec![0; SIZE];
     let mut sheet = vec![0; 7470];
     let mut place = [0; 5];
-    let entries: [(&str, extern "C" fn(*mut Call)); 5] =
-        [("sheet", run_call), ("coach", run_coach), ("place", run_place), ("reading of a sheet", run_read), ("reading of an item", run_item)];
-    let (mut most, mut least) = ([0; 5], [usize::MAX; 5]);
+    let entries: [(&str, extern "C" fn(*mut Call)); 6] = [
+        ("sheet", run_call),
+        ("display", run_display),
+        ("coach", run_coach),
+        ("place", run_place),
+        ("reading of a sheet", run_read),
+        ("reading of an item", run_item),
+    ];
+    let (mut most, mut least) = ([0; 6], [usize::MAX; 6]);
     for turn in 0..count {
         let s = generate::situation(&mut random, CLASSES[turn as usize % CLASSES.len()]);
         let words = s.to_words(None);

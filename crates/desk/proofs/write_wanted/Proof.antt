@@ -7,14 +7,14 @@ use borrow.Author.Needs.{needs}
 use Rattle.desk.proofs.write_wanted.Statement.{statement}
 use Rattle.desk.proofs.write_wanted.Tie as tie
 
-enum-told : tie.Need-enum-told
-enum-told c = search needs
+enum-known-wanted : tie.Need-enum-known-wanted
+enum-known-wanted c = search needs
 
 write-sheet-requires : tie.Need-write-sheet-requires
 write-sheet-requires c κs = search needs
 
-enum-told-2 : tie.Need-enum-told-2
-enum-told-2 c = search needs
+enum-told : tie.Need-enum-told
+enum-told c = search needs
 
 write-sentences-requires : tie.Need-write-sentences-requires
 write-sentences-requires c κs = search needs
@@ -24,10 +24,10 @@ same-length c = search needs
 
 returns : tie.Need-returns
 returns c =
-    let told = c .before .before .before .before in
+    let told = c .before .before .before .before .before in
     let a = told .before .before .before .before .before .args in
     let call = c .before .before .write-sheet in
-    let known = told .enum-told .given .1 in
+    let known = told .wanted .given .1 in
     (call .ensures .0 ∙ sym (ap (λ (w : Wanted). wantedAnswer w (a .s) (now (a .xs)) (now (a .ys)) (length (now (a .out)))) known), call .ensures .1 ∙ sym (ap (λ (w : Wanted). wantedAfter w (a .s) (now (a .xs)) (now (a .ys)) (now (a .out))) known))
 
 same-length-2 : tie.Need-same-length-2
@@ -38,16 +38,16 @@ returns-2 c =
     let told = c .before .before .before .before in
     let a = told .before .before .before .before .before .args in
     let call = c .before .before .write-sentences in
-    let known = told .enum-told2 .given .1 in
+    let known = told .enum-told .given .1 in
     (call .ensures .0 ∙ sym (ap (λ (w : Wanted). wantedAnswer w (a .s) (now (a .xs)) (now (a .ys)) (length (now (a .out)))) known), call .ensures .1 ∙ sym (ap (λ (w : Wanted). wantedAfter w (a .s) (now (a .xs)) (now (a .ys)) (now (a .out))) known))
 
 pub write-wanted-spec : {M : Type 1} → statement M
 write-wanted-spec =
     tie.close
     (tie.spec
-    enum-told
+    enum-known-wanted
     write-sheet-requires
-    enum-told-2
+    enum-told
     write-sentences-requires
     same-length
     returns

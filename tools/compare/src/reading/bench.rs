@@ -2,6 +2,7 @@
 
 use super::reader::{write_sheet, LINE, WORDS};
 use super::{sheet, sheets, SHEET};
+use crate::library::For;
 use crate::random::Random;
 use crate::situation::Situation;
 use crate::{compare, library};
@@ -48,7 +49,7 @@ fn longest(count: u64, seed: u64) -> Vec<(Situation, Vec<u8>)> {
 fn both(s: &Situation, text: &[u8], repeats: usize) -> [f64; 2] {
     let words = s.to_words(None);
     let mut lent = vec![0; SHEET];
-    let mut make = || library::sheet(black_box(&words), &s.xs, &s.ys, &mut lent);
+    let mut make = || library::sheet(For::Desk, black_box(&words), &s.xs, &s.ys, &mut lent);
     let mut read = || library::read_sheet(black_box(text));
     least(repeats, [&mut make, &mut read])
 }

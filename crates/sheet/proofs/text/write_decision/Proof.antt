@@ -4,12 +4,11 @@ use mathlib.Core.Path.{_≡_, ap, _∙_}
 use mathlib.Core.List.{List, _++_}
 use Prim.Native.Nat.{_+_, _≤_}
 use native.Mathlib.Omega.{arith}
-use lib.ListN.{length, length-append}
+use lib.ListN.{length}
 use Rattle.lines.specs.declared.Row.{Row}
 use Rattle.sheet.specs.Blocks.{allRows, placeLineRows}
-use Rattle.sheet.specs.Rows.{placeRows, rowsOf}
-use Rattle.sheet.proofs.Answers.{decision-refused, decision-written}
-use Rattle.sheet.proofs.Written.{place-few}
+use Rattle.sheet.specs.Rows.{rowsOf}
+use Rattle.sheet.proofs.Answers.{lines-counted, lines-few, decision-refused, decision-written}
 use borrow.Author.Needs.{needs}
 use Rattle.sheet.proofs.text.write_decision.Statement.{statement}
 use Rattle.sheet.proofs.text.write_decision.Tie as tie
@@ -20,14 +19,11 @@ all-told c = ap (λ (r : List Row). allRows (c .before .before .blocks-of .resul
 
 -- so is their number
 counted : (c : tie.After-line-count) → c .line-count .result + c .before .lines-of-place .result .lines ≡ length (rowsOf (c .before .before .before .before .args .d))
-counted c =
-    let blocks = c .before .before .blocks-of .result in
-    let place = placeRows (c .before .before .before .before .args .d .place) in
-    omega (arith, c .line-count .ensures .0, c .before .lines-of-place .ensures .0, length-append (allRows blocks) place, ap length (c .before .before .blocks-of .ensures .1))
+counted c = lines-counted _ _ _ _ (c .line-count .ensures .0) (c .before .lines-of-place .ensures .0) (c .before .before .blocks-of .ensures .1)
 
 -- there are few of them
 few : (c : tie.After-line-count) → c .line-count .result + c .before .lines-of-place .result .lines ≤ 203
-few c = omega (arith, c .line-count .ensures .1, c .before .lines-of-place .ensures .0, place-few (c .before .before .before .before .args .d .place))
+few c = lines-few (c .before .before .before .before .args .d) _ _ (c .line-count .ensures .1) (c .before .lines-of-place .ensures .0)
 
 blocks-of-requires : tie.Need-blocks-of-requires
 blocks-of-requires c κs = search needs
