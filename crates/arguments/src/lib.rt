@@ -1,9 +1,10 @@
 // What a call of `judge` asks for, by its words: `judge [COMMAND] [FILE]`.
+#![tactic(auto)]
 ghost use Rattle.std.specs.Prelude.{◌≡◌, length};
 ghost use Rattle.arguments.specs.Arguments as Spec;
 
 // The commands, those that `judge help` lists.
-#[derive(Drop)]
+#[derive(Clone, Copy)]
 pub enum Command {
     Sheet,
     Display,
@@ -12,14 +13,14 @@ pub enum Command {
     Help,
 }
 
-#[derive(Drop)]
+#[derive(Clone, Copy)]
 pub enum MaybeCommand {
     NoCommand,
     Of(Command),
 }
 
 // What is read: standard input, or the file that the first or the second word names.
-#[derive(Drop)]
+#[derive(Clone, Copy)]
 pub enum Source {
     StandardInput,
     FirstWord,
@@ -27,7 +28,7 @@ pub enum Source {
 }
 
 // A command and what it reads; or words of which it cannot be told.
-#[derive(Drop)]
+#[derive(Clone, Copy)]
 pub enum Asked {
     Run(Command, Source),
     Unclear,

@@ -1,4 +1,5 @@
 // What follows when the ball leaves the field.
+#![tactic(auto)]
 ghost use Rattle.std.specs.Prelude.{◌≡◌};
 ghost use Rattle.game.specs.Game.{opponent};
 ghost use Rattle.ball.specs.Ball as Spec;
@@ -9,7 +10,7 @@ use game::{
 };
 
 // Whether a goal counts, or what is called in its stead.
-#[derive(Drop)]
+#[derive(Clone, Copy)]
 pub enum GoalJudgment {
     ValidGoal,
     Instead(BallJudgment),

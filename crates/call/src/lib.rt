@@ -1,4 +1,5 @@
 // The call: refuses a situation, or decides on it and writes the sheet, or the coach's lines.
+#![tactic(auto)]
 ghost use Rattle.std.specs.Prelude.{◌≡◌, length};
 ghost use Rattle.sheet.specs.Rows.{rows_of};
 ghost use Rattle.coach.specs.Coach.{sentence_answer, sentence_after, sentences_answer, sentences_after};
@@ -8,7 +9,7 @@ use game::{Decision, Side, Situation};
 use sheet::SheetAnswer;
 
 // Whom a sheet is for: the desk, or the display in the corridor, which shows at most twelve lines under the header. The lines are the same.
-#[derive(Drop)]
+#[derive(Clone, Copy)]
 pub enum SheetFor {
     Desk,
     Display,

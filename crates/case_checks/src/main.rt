@@ -1,5 +1,6 @@
 // Compares document 01's cases, the coach's lines, inputs that are no situation, and texts that may be sheets, with what the code gives. The list of standard input has the form of the crate `records`, and
 // README.md says what its records are. Writes a line for each record that does not agree, and last how many agree of how many.
+#![tactic(auto)]
 mod sheets;
 
 ghost use Rattle.std.specs.Prelude.{◌≤◌, length};
@@ -16,7 +17,7 @@ const ROOM: usize = 458752;
 const MOST: u32 = 10000;
 
 // How many records agree, of how many, and where the next begins. The sums wrap, so that no bound on them has to be shown.
-#[derive(Drop)]
+#[derive(Clone, Copy)]
 struct Tally {
     agree: u64,
     records: u64,

@@ -18,7 +18,7 @@ const SHEET_NUMBERS: usize = 566;
 const NUMBERS: usize = 568;
 
 // The library's calls: for a sheet, for the desk or the display, and for a coach's line.
-#[derive(Drop)]
+#[derive(Clone, Copy)]
 pub(crate) enum Asked {
     Desk,
     Display,

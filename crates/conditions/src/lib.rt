@@ -1,11 +1,12 @@
 // The tests of the rules that can settle a verdict other than Legal, and the verdict that each settles.
+#![tactic(auto)]
 ghost use Rattle.std.specs.Prelude.{◌≡◌};
 ghost use Rattle.conditions.specs.Conditions as Spec;
 
 use game::Positioning;
 
 // The condition that settled a verdict, in the order in which `is_illegally_positioned` has the tests.
-#[derive(Drop)]
+#[derive(Clone, Copy)]
 pub enum Condition {
     // The verdict is Legal.
     NoCondition,
@@ -31,7 +32,7 @@ pub enum Condition {
     InAreaOfBall,
 }
 
-#[derive(Drop)]
+#[derive(Clone, Copy)]
 pub struct PlayerCondition {
     pub condition: Condition,
 }

@@ -9,7 +9,7 @@ use game::{
 };
 
 // The number of the refusal, or 0 beside the decision; a refusal gives the empty one.
-#[derive(Drop)]
+#[derive(Clone, Copy)]
 pub struct Answer {
     pub refusal: u8,
     pub decision: Decision,

@@ -1,4 +1,5 @@
 // What the program `judge` prints for what it reads: a sheet, the coach's lines, the items of a sheet, a refusal, or what is wrong with the input.
+#![tactic(auto)]
 ghost use Rattle.std.specs.Prelude.{◌≡◌, ◌+◌, ◌≤◌, length};
 ghost use Rattle.lines.specs.Over.{over};
 ghost use Rattle.input.specs.Input.{most_places, numbers_for};
@@ -16,14 +17,14 @@ use reading::{ItemRead, SheetRead};
 use sheet::SheetAnswer;
 
 // What was written, of so many bytes: an answer, a sheet, the coach's lines or those of items, or something else that is told, a refusal or what is wrong with the input.
-#[derive(Drop)]
+#[derive(Clone, Copy)]
 pub enum Reply {
     Answer(usize),
     Told(usize),
 }
 
 // What is wanted of a situation.
-#[derive(Drop)]
+#[derive(Clone, Copy)]
 enum Wanted {
     Sheet(SheetFor),
     Sentences,

@@ -1,4 +1,5 @@
 // Lines of the sheet, read back from a text: four decimal numbers, each right-justified with blanks in 11 columns, then a line feed.
+#![tactic(auto)]
 ghost use Rattle.std.specs.Prelude.{◌≡◌, ◌+◌, ◌≤◌, length, take, drop};
 ghost use Rattle.std.proofs.Math.Seq.{slice};
 ghost use Rattle.fields.specs.Fields as Spec;
@@ -6,7 +7,7 @@ ghost use Rattle.fields.specs.Fields as Spec;
 use lines::Row;
 
 // A line that was read, or none: bytes that are no line.
-#[derive(Drop)]
+#[derive(Clone, Copy)]
 pub enum ReadLine {
     NoLine,
     Line(Row),

@@ -1,4 +1,5 @@
 // The functions on floats that the rules use, each equal to its definition for every float. The rules see only these contracts and the laws.
+#![tactic(auto)]
 ghost use Rattle.std.specs.Prelude.{◌≡◌};
 ghost use Rattle.std.specs.Float.Ieee as Ieee;
 ghost use Rattle.std.specs.Float.{binary32};
@@ -109,7 +110,7 @@ pub fn total_key(b: u32) -> u32
 }
 
 // How two values compare.
-#[derive(Drop)]
+#[derive(Clone, Copy)]
 pub enum Order {
     Less,
     Equal,

@@ -1,4 +1,5 @@
 // Playing frames in a row: what is kept between frames, and what a frame and a touch of the ball make of it.
+#![tactic(auto)]
 ghost use Rattle.std.specs.Prelude.{◌≡◌};
 ghost use Rattle.positioning.specs.Positioning.{is_set_play};
 ghost use Rattle.frames.specs.Frames as Spec;
@@ -11,7 +12,7 @@ use remembered::{MaybeAllowance, Remembered};
 use restarts::TouchCall;
 
 // What is kept between frames for positioning: of each player, the player that may take the kick-off or penalty kick, the restart that is in effect, and where the ball was in the last frame.
-#[derive(Drop)]
+#[derive(Clone, Copy)]
 pub struct Memory {
     pub home: [Remembered; 20],
     pub away: [Remembered; 20],
@@ -21,7 +22,7 @@ pub struct Memory {
 }
 
 // A touch of the ball, by a player of a side: one that goes on from the frame before, or a new one.
-#[derive(Drop)]
+#[derive(Clone, Copy)]
 pub enum Touch {
     NoTouch,
     GoesOn(Side, u8),
@@ -29,7 +30,7 @@ pub enum Touch {
 }
 
 // What has happened since the last frame, beside what the frame itself shows.
-#[derive(Drop)]
+#[derive(Clone, Copy)]
 pub struct Events {
     pub grace_over: bool,
     pub set_play_begun: bool,
@@ -39,7 +40,7 @@ pub struct Events {
 }
 
 // The calls of a frame, in their order: that of the touch, those on Home's players and those on Away's.
-#[derive(Drop)]
+#[derive(Clone, Copy)]
 pub struct Calls {
     pub touch: TouchCall,
     pub home: [Called; 20],
@@ -47,14 +48,14 @@ pub struct Calls {
 }
 
 // The memory after a touch, and what is called for it.
-#[derive(Drop)]
+#[derive(Clone, Copy)]
 pub struct Touched {
     pub memory: Memory,
     pub call: TouchCall,
 }
 
 // What a frame gives: the next memory, the calls and the decision.
-#[derive(Drop)]
+#[derive(Clone, Copy)]
 pub struct Framed {
     pub memory: Memory,
     pub calls: Calls,
@@ -62,7 +63,7 @@ pub struct Framed {
 }
 
 // What a step answers: the number of the refusal or 0, the memory after it, the calls and the decision. A refusal keeps the memory as it came in and has no calls and the empty decision.
-#[derive(Drop)]
+#[derive(Clone, Copy)]
 pub struct Step {
     pub refusal: u8,
     pub memory: Memory,

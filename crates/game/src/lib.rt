@@ -1,25 +1,26 @@
 // The used types of types.rs and lib.rs: the situation that a decision is asked of, and the decision. Everything goes by value.
 // Each "or none" is an enum whose empty case stands first, so that it is the value past the end of an array.
+#![tactic(auto)]
 ghost use Rattle.std.specs.Prelude.{◌≡◌, false, ◌<◌, get_or};
 ghost use Rattle.game.specs.Codes.{side_code};
 ghost use Rattle.game.specs.Game as Spec;
 ghost use Rattle.game.specs.Players as Players;
 
 // The team listed first on the schedule, and the other.
-#[derive(Drop)]
+#[derive(Clone, Copy)]
 pub enum Side {
     Home,
     Away,
 }
 
 // Which goal the home team defends. The left goal is at positive x.
-#[derive(Drop)]
+#[derive(Clone, Copy)]
 pub enum SideMapping {
     HomeDefendsLeftGoal,
     HomeDefendsRightGoal,
 }
 
-#[derive(Drop)]
+#[derive(Clone, Copy)]
 pub enum Phase {
     FirstHalf,
     SecondHalf,
@@ -28,7 +29,7 @@ pub enum Phase {
     PenaltyShootout,
 }
 
-#[derive(Drop)]
+#[derive(Clone, Copy)]
 pub enum State {
     Initial,
     Ready,
@@ -38,7 +39,7 @@ pub enum State {
     Timeout,
 }
 
-#[derive(Drop)]
+#[derive(Clone, Copy)]
 pub enum SetPlay {
     NoSetPlay,
     KickOff,
@@ -50,7 +51,7 @@ pub enum SetPlay {
     CornerKick,
 }
 
-#[derive(Drop)]
+#[derive(Clone, Copy)]
 pub enum Penalty {
     NoPenalty,
     IllegalPositioning,
@@ -73,20 +74,20 @@ pub const MIN: u8 = 1;
 
 pub const MAX: u8 = 20;
 
-#[derive(Drop)]
+#[derive(Clone, Copy)]
 pub enum MaybeSide {
     NoSide,
     Of(Side),
 }
 
-#[derive(Drop)]
+#[derive(Clone, Copy)]
 pub enum MaybeNumber {
     NoNumber,
     Number(u8),
 }
 
 // The dimensions of the field, in metres.
-#[derive(Drop)]
+#[derive(Clone, Copy)]
 pub struct FieldDimensions {
     pub length: f32,
     pub width: f32,
@@ -105,7 +106,7 @@ pub struct FieldDimensions {
 }
 
 // Where a player stands.
-#[derive(Drop)]
+#[derive(Clone, Copy)]
 pub struct PlayerPose {
     pub x: f32,
     pub y: f32,
@@ -114,21 +115,21 @@ pub struct PlayerPose {
 }
 
 // The pose that the judges see, where the player is present.
-#[derive(Drop)]
+#[derive(Clone, Copy)]
 pub enum SeenPose {
     Absent,
     Present(PlayerPose),
 }
 
 // The pose that motion is measured from, where there is one. It is a type of its own, so that what is seen can change alone.
-#[derive(Drop)]
+#[derive(Clone, Copy)]
 pub enum ReferencePose {
     NoReference,
     Reference(PlayerPose),
 }
 
 // What the situation holds of one player.
-#[derive(Drop)]
+#[derive(Clone, Copy)]
 pub struct Player {
     pub pose: SeenPose,
     pub reference: ReferencePose,
@@ -138,14 +139,14 @@ pub struct Player {
 }
 
 // One side's players, by number - 1, and its goalkeeper.
-#[derive(Drop)]
+#[derive(Clone, Copy)]
 pub struct Team {
     pub players: [Player; 20],
     pub goalkeeper: MaybeNumber,
 }
 
 // How far a player is inside its own goal area, its own penalty area and the opponents' penalty area; below 0 it is outside.
-#[derive(Drop)]
+#[derive(Clone, Copy)]
 pub struct Margins {
     pub own_goal_area: f32,
     pub own_penalty_area: f32,
@@ -153,19 +154,19 @@ pub struct Margins {
 }
 
 // The margins of a player, where it is present.
-#[derive(Drop)]
+#[derive(Clone, Copy)]
 pub enum MaybeMargins {
     NoMargins,
     Known(Margins),
 }
 
 // An element of a side's list of margins.
-#[derive(Drop)]
+#[derive(Clone, Copy)]
 pub struct PlayerMargins {
     pub margins: MaybeMargins,
 }
 
-#[derive(Drop)]
+#[derive(Clone, Copy)]
 pub enum RestartKind {
     KickOff,
     Indirect,
@@ -174,7 +175,7 @@ pub enum RestartKind {
 }
 
 // The restart that is in effect, its kicker without the time of the kick. The kick position is not read.
-#[derive(Drop)]
+#[derive(Clone, Copy)]
 pub struct Restart {
     pub kind: RestartKind,
     pub set_play: SetPlay,
@@ -188,14 +189,14 @@ pub struct Restart {
     pub ball_moved_since_kick: bool,
 }
 
-#[derive(Drop)]
+#[derive(Clone, Copy)]
 pub enum MaybeRestart {
     NoRestart,
     InEffect(Restart),
 }
 
 // The game without its teams.
-#[derive(Drop)]
+#[derive(Clone, Copy)]
 pub struct Game {
     pub sides: SideMapping,
     pub stopped: bool,
@@ -205,7 +206,7 @@ pub struct Game {
     pub kicking_side: MaybeSide,
 }
 
-#[derive(Drop)]
+#[derive(Clone, Copy)]
 pub struct Ball {
     pub x: f32,
     pub y: f32,
@@ -213,7 +214,7 @@ pub struct Ball {
 }
 
 // The placement wish: a named player is a side and a number.
-#[derive(Drop)]
+#[derive(Clone, Copy)]
 pub enum Wish {
     Nothing,
     BallAtRestart,
@@ -224,7 +225,7 @@ pub enum Wish {
 }
 
 // One moment of a match, with what the referee remembers. The earlier places of the batch are two lists beside it.
-#[derive(Drop)]
+#[derive(Clone, Copy)]
 pub struct Situation {
     pub field: FieldDimensions,
     pub penalty_placement_distance: f32,
@@ -240,14 +241,14 @@ pub struct Situation {
 }
 
 // A list of players of one side by their numbers: the first `count` of the array, the rest of it 0.
-#[derive(Drop)]
+#[derive(Clone, Copy)]
 pub struct PlayerList {
     pub count: usize,
     pub numbers: [u8; 20],
 }
 
 // The result of checking the position of a player.
-#[derive(Drop)]
+#[derive(Clone, Copy)]
 pub enum Positioning {
     Legal,
     Illegal,
@@ -256,26 +257,26 @@ pub enum Positioning {
 }
 
 // An element of a side's list of verdicts.
-#[derive(Drop)]
+#[derive(Clone, Copy)]
 pub struct PlayerVerdict {
     pub verdict: Positioning,
 }
 
 // An element of a side's list of reference poses.
-#[derive(Drop)]
+#[derive(Clone, Copy)]
 pub struct PlayerReference {
     pub reference: ReferencePose,
 }
 
 // The player that is allowed to take the kick.
-#[derive(Drop)]
+#[derive(Clone, Copy)]
 pub enum KickingPlayer {
     NoKicker,
     Kicker(Side, u8),
 }
 
 // What is called, for a side where it is for one.
-#[derive(Drop)]
+#[derive(Clone, Copy)]
 pub enum BallJudgment {
     NoJudgment,
     Goal(Side),
@@ -286,7 +287,7 @@ pub enum BallJudgment {
 }
 
 // A place for the ball, its x, y and z, or for a player, its x, y and heading.
-#[derive(Drop)]
+#[derive(Clone, Copy)]
 pub enum Placement {
     NoPlace,
     BallAt(f32, f32, f32),
@@ -300,7 +301,7 @@ pub enum Placement {
 }
 
 // The items that each side has of its own.
-#[derive(Drop)]
+#[derive(Clone, Copy)]
 pub struct SideDecision {
     pub verdicts: [PlayerVerdict; 20],
     pub excess: PlayerList,
@@ -310,7 +311,7 @@ pub struct SideDecision {
 }
 
 // The items of a decision.
-#[derive(Drop)]
+#[derive(Clone, Copy)]
 pub struct Decision {
     pub home: SideDecision,
     pub away: SideDecision,

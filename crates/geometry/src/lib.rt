@@ -1,4 +1,5 @@
 // Where a player stands, by the dimensions of the field.
+#![tactic(auto)]
 ghost use Rattle.std.specs.Prelude.{◌≡◌};
 ghost use Rattle.geometry.specs.Geometry as Spec;
 

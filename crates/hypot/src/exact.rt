@@ -76,7 +76,7 @@ fn capped(b: u32) -> u32
     if b < 0x7f80_0000 { b } else { 0x7f80_0000 }
 }
 
-#[derive(Drop)]
+#[derive(Clone, Copy)]
 struct Found {
     t: u64,
     x: u64,

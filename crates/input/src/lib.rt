@@ -1,4 +1,5 @@
 // A situation from a text of decimal numbers: its words, then the number of earlier x and their patterns, then the number of earlier y and theirs.
+#![tactic(auto)]
 ghost use Rattle.std.specs.Prelude.{◌≡◌, min, length, take};
 ghost use Rattle.columns.specs.Layout.{word_count};
 ghost use Rattle.columns.specs.Columns.{words_within};
@@ -9,7 +10,7 @@ use columns::layout::WORDS;
 use numbers::Reading;
 
 // What is wrong with a number of an input.
-#[derive(Drop)]
+#[derive(Clone, Copy)]
 pub enum Fault {
     // Its field has a byte that is no digit, or is of 2^32 or more.
     NotANumber,
@@ -24,7 +25,7 @@ pub enum Fault {
 }
 
 // How many earlier x and earlier y an input has; or the number, counted from 0, with which something is wrong.
-#[derive(Drop)]
+#[derive(Clone, Copy)]
 pub enum Input {
     Read(usize, usize),
     Wrong(usize, Fault),

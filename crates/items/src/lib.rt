@@ -1,4 +1,5 @@
 // The items of a sheet: what each of its lines says.
+#![tactic(auto)]
 ghost use Rattle.std.specs.Prelude.{◌≡◌};
 ghost use Rattle.items.specs.Items as Spec;
 
@@ -6,7 +7,7 @@ use game::{BallJudgment, Positioning, Side};
 use lines::Row;
 
 // Whom a place is for.
-#[derive(Drop)]
+#[derive(Clone, Copy)]
 pub enum Who {
     TheBall,
     OnePlayer(Side, u32),
@@ -14,7 +15,7 @@ pub enum Who {
 
 // A line of a sheet after its header: the verdict on a player, one who is too many in its goal area with its rank, the kicking player, one leaving, one moved, the ball
 // judgment, and x, y and the third number of a place.
-#[derive(Drop)]
+#[derive(Clone, Copy)]
 pub enum Item {
     Verdict(Side, u32, Positioning),
     Excess(Side, u32, u32),

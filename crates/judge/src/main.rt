@@ -1,4 +1,5 @@
 // judge [COMMAND] [FILE]: the answer goes to standard output; all else that is told, one line, goes to standard error.
+#![tactic(auto)]
 ghost use Rattle.std.specs.Prelude.{◌≡◌, length};
 ghost use Rattle.io.specs.Counts.{IsPrefixLen};
 
@@ -20,7 +21,7 @@ fn room() -> [u8; ROOM]
 }
 
 // How many bytes were read, and whether no read failed.
-#[derive(Drop)]
+#[derive(Clone, Copy)]
 struct Got {
     size: usize,
     whole: bool,

@@ -1,4 +1,5 @@
 // Which player of the kicking team takes a kick-off or a penalty kick.
+#![tactic(auto)]
 ghost use Rattle.std.specs.Prelude.{◌≡◌, ◌<◌};
 ghost use Rattle.kicker.specs.Kicker as Spec;
 ghost use Rattle.kicker.specs.KickerKeys as Kicking;
@@ -10,7 +11,7 @@ use game::{
 use keys::NO_KEY;
 
 // The distance to the mark of a player who may kick.
-#[derive(Drop)]
+#[derive(Clone, Copy)]
 pub enum Distance {
     NoDistance,
     At(f32),

@@ -9,7 +9,7 @@ const FILL: f32 = 7.0;
 const MOST: usize = 16;
 
 // What candidates are asked for.
-#[derive(Drop)]
+#[derive(Clone, Copy)]
 struct Query {
     start: f32,
     min: f32,

@@ -1,11 +1,12 @@
 // A line of the sheet: four decimal numbers, each right-justified with blanks in 11 columns, then a line feed.
+#![tactic(auto)]
 ghost use Rattle.std.specs.Prelude.{◌≡◌, ◌+◌, ◌≤◌, length};
 ghost use Rattle.lists.specs.Put.{fronted, fronted_into};
 ghost use Rattle.lines.specs.Over.{over};
 ghost use Rattle.lines.specs.Line as Spec;
 
 // The numbers of a line.
-#[derive(Drop)]
+#[derive(Clone, Copy)]
 pub struct Row {
     pub kind: u32,
     pub side: u32,

@@ -1,4 +1,5 @@
 // Who has moved from its reference pose. It is asked in every state; when a robot may move is for the caller to know.
+#![tactic(auto)]
 ghost use Rattle.std.specs.Prelude.{◌≡◌};
 ghost use Rattle.motion.specs.Motion as Spec;
 
@@ -50,7 +51,7 @@ fn moved_flags(team: Team) -> [bool; 20]
 }
 
 // What motion gives for a team: the numbers of the players that have moved, ascending, and the reference poses after that.
-#[derive(Drop)]
+#[derive(Clone, Copy)]
 pub struct Motion {
     pub moved: PlayerList,
     pub references: [PlayerReference; 20],

@@ -1,10 +1,11 @@
 // Decimal numbers from a text, separated by blanks, tabs, line feeds or carriage returns.
+#![tactic(auto)]
 ghost use Rattle.std.specs.Prelude.{◌≡◌, ◌<◌, ◌≤◌};
 ghost use Rattle.numbers.specs.Numbers as Spec;
 ghost use Rattle.numbers.specs.Walk as Walk;
 
 // How many numbers a text has, or which of its fields, counted from 0, is the first that is none: it has a byte that is no digit, or its value is 2^32 or more.
-#[derive(Drop)]
+#[derive(Clone, Copy)]
 pub enum Reading {
     Read(usize),
     NotANumber(usize),
@@ -13,7 +14,7 @@ pub enum Reading {
 
 // What is known after some bytes. Outside of a field, and wherever there was a fault: the reading so far.
 // In a field of digits: how many numbers come before it, and its value so far, where 2^32 stands for every value that is too large.
-#[derive(Drop)]
+#[derive(Clone, Copy)]
 enum Progress {
     Closed(Reading),
     Open(usize, u64),

@@ -1,4 +1,5 @@
 // Who is penalised in a frame, for leaving the field or for an illegal position.
+#![tactic(auto)]
 ghost use Rattle.std.specs.Prelude.{◌≡◌};
 ghost use Rattle.penalties.specs.Penalties as Spec;
 
@@ -9,7 +10,7 @@ use game::{
 use remembered::Remembered;
 
 // What a player is penalised for.
-#[derive(Drop)]
+#[derive(Clone, Copy)]
 pub enum PlayerCall {
     NoCall,
     LeavingTheField,
@@ -17,20 +18,20 @@ pub enum PlayerCall {
 }
 
 // An element of a side's list of calls.
-#[derive(Drop)]
+#[derive(Clone, Copy)]
 pub struct Called {
     pub call: PlayerCall,
 }
 
 // What asking of a player gives: its call, and the kicking player after it, who may be named on the way.
-#[derive(Drop)]
+#[derive(Clone, Copy)]
 struct Asked {
     call: PlayerCall,
     kicking_player: MaybeNumber,
 }
 
 // The calls on a side's players, and the kicking player after them.
-#[derive(Drop)]
+#[derive(Clone, Copy)]
 pub struct Penalized {
     pub calls: [Called; 20],
     pub kicking_player: MaybeNumber,

@@ -1,4 +1,5 @@
 // The place of a penalized player, as place_for_penalty.
+#![tactic(auto)]
 ghost use Rattle.std.specs.Prelude.{◌≡◌};
 ghost use Rattle.lists.specs.Fold.{fold_to};
 ghost use Rattle.clearance.specs.Clearance.{occupied};
@@ -9,7 +10,7 @@ use floats::{Order, PI};
 use game::{FieldDimensions, Game, Placement, SeenPose, Side, Team};
 
 // The candidate that is taken so far, its clearance, and whether that reaches the distance.
-#[derive(Drop)]
+#[derive(Clone, Copy)]
 struct Choice {
     reached: bool,
     x: f32,
@@ -43,7 +44,7 @@ fn considered(choice: Choice, distance: f32, x: f32, c: f32) -> Choice
 }
 
 // What the tries need: the first candidate and the bounds, the distance, which is the step too, the side's sign, and the height of the place.
-#[derive(Drop)]
+#[derive(Clone, Copy)]
 struct Search {
     first: f32,
     min: f32,

@@ -1,4 +1,5 @@
 // Where the ball and the players are placed.
+#![tactic(auto)]
 ghost use Rattle.std.specs.Prelude.{◌≡◌};
 ghost use Rattle.places.specs.Places as Spec;
 

@@ -1,4 +1,5 @@
 // Reads a sheet: whether a text is one, and the items of its lines.
+#![tactic(auto)]
 ghost use Rattle.std.specs.Prelude.{◌≡◌, ◌≤◌};
 ghost use Rattle.fields.specs.declared.ReadLine.TheVariants.{Line};
 ghost use Rattle.reading.specs.Rules as Rules;
@@ -11,14 +12,14 @@ use items::Item;
 use lines::Row;
 
 // How many lines follow the header, or the number of a refusal.
-#[derive(Drop)]
+#[derive(Clone, Copy)]
 pub enum SheetRead {
     NotRead(u8),
     Lines(usize),
 }
 
 // The numbers of an item, or none for a line that there is not.
-#[derive(Drop)]
+#[derive(Clone, Copy)]
 pub enum LineRead {
     RefusedLine(u8),
     NoSuchLine,
@@ -26,7 +27,7 @@ pub enum LineRead {
 }
 
 // The item itself.
-#[derive(Drop)]
+#[derive(Clone, Copy)]
 pub enum ItemRead {
     RefusedItem(u8),
     NoItem,
@@ -35,7 +36,7 @@ pub enum ItemRead {
 
 // What is known after some lines: one is no line in column form; they cannot begin a sheet; there was none yet; or the last one, with a flag for each player
 // that its side named in kind 2 so far.
-#[derive(Drop)]
+#[derive(Clone, Copy)]
 enum Walk {
     NotLines,
     Breach,

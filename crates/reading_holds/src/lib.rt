@@ -1,1 +1,2 @@
 // What is claimed of sheets that are read, and its proofs. No code.
+#![tactic(auto)]

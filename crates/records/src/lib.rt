@@ -2,13 +2,14 @@
 //
 // A record is a head, an input and an answer, one after the other. The head is a line of 45 bytes: four decimal numbers, each right-justified with blanks in 11
 // columns, and a line feed. They are the record's kind, the room that is lent, the number of bytes of the input and that of the answer.
+#![tactic(auto)]
 ghost use Rattle.std.specs.Prelude.{◌≡◌, ◌≤◌, length, get_or};
 ghost use Rattle.records.specs.Records as Spec;
 
 use numbers::Reading;
 
 // A record: its kind, the room that is lent, and the places of the list where its input, its answer and what comes after it begin.
-#[derive(Drop)]
+#[derive(Clone, Copy)]
 pub struct Record {
     pub kind: u32,
     pub lent: usize,
@@ -18,7 +19,7 @@ pub struct Record {
 }
 
 // What stands at a place of a list: a whole record, or something else.
-#[derive(Drop)]
+#[derive(Clone, Copy)]
 pub enum Found {
     Broken,
     Whole(Record),

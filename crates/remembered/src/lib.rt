@@ -1,4 +1,5 @@
 // What is remembered of the players of a side between frames, and what a frame makes of it.
+#![tactic(auto)]
 ghost use Rattle.std.specs.Prelude.{◌≡◌};
 ghost use Rattle.remembered.specs.Remembered as Spec;
 
@@ -11,7 +12,7 @@ use game::{
 const RETURN_TOLERANCE: f32 = 0.05;
 
 // How far a returning player was beyond the edge of the carpet when it was unpenalised, where it has been seen so.
-#[derive(Drop)]
+#[derive(Clone, Copy)]
 pub enum MaybeAllowance {
     NoAllowance,
     Allowed(f32),
@@ -19,7 +20,7 @@ pub enum MaybeAllowance {
 
 // Of one player: it has been penalised and not been on the field since; its allowance; it has been outside the avoidance region since the set play began; it was inside its goal area in the last
 // frame; it was present there.
-#[derive(Drop)]
+#[derive(Clone, Copy)]
 pub struct Remembered {
     pub returning: bool,
     pub return_allowance: MaybeAllowance,

@@ -9,7 +9,7 @@ const FILL: f32 = 1000.0;
 const MOST: usize = 8200;
 
 // What candidates are asked for.
-#[derive(Drop)]
+#[derive(Clone, Copy)]
 struct Query {
     start: f32,
     min: f32,

@@ -3,6 +3,7 @@
 // Kind 1: the input is a situation as the program `judge` reads it, the room is a number of bytes, the answer is what is written into these.
 // Kind 2: the input is four patterns, start, min, max and step, the room is a number of places, the answer is the number of candidates and their patterns, or
 // 0 and the refusal.
+#![tactic(auto)]
 mod lists;
 mod reading;
 mod sheets;
@@ -18,7 +19,7 @@ const ROOM: usize = 131072;
 const MOST: u32 = 100000;
 
 // How many records agree, of how many, and whether there may be more. The sums wrap, so that no bound on them has to be shown.
-#[derive(Drop)]
+#[derive(Clone, Copy)]
 struct Tally {
     agree: u64,
     records: u64,

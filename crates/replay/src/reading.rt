@@ -6,7 +6,7 @@ use libc::STDIN_FILENO;
 use records::{Found, Record};
 
 // What becomes of a record: there is none, the answer is the same or another, or it is not in the form of a record.
-#[derive(Drop)]
+#[derive(Clone, Copy)]
 pub(crate) enum Outcome {
     NoRecord,
     Agrees,

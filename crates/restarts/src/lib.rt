@@ -1,4 +1,5 @@
 // The Restart record that is in effect: what a touch of the ball, a change of the game and the way of the ball make of it.
+#![tactic(auto)]
 ghost use Rattle.std.specs.Prelude.{◌≡◌};
 ghost use Rattle.ball.specs.Ball.{is_penalty_shot};
 ghost use Rattle.restarts.specs.Restarts as Spec;
@@ -12,7 +13,7 @@ use game::{
 const BALL_CLEARLY_MOVED_DISTANCE: f32 = 0.1;
 
 // What a touch of the ball has called: the end of the penalty shot, or an indirect free kick and the side that takes it.
-#[derive(Drop)]
+#[derive(Clone, Copy)]
 pub enum TouchCall {
     NoCall,
     PenaltyShotEnded,
@@ -20,7 +21,7 @@ pub enum TouchCall {
 }
 
 // The restart after a touch, and what is called for it.
-#[derive(Drop)]
+#[derive(Clone, Copy)]
 pub struct TouchedRestart {
     pub restart: MaybeRestart,
     pub call: TouchCall,

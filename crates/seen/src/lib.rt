@@ -1,11 +1,12 @@
 // What several items of a decision, and the coach's lines, use of a side.
+#![tactic(auto)]
 ghost use Rattle.std.specs.Prelude.{◌≡◌};
 ghost use Rattle.seen.specs.Seen as Spec;
 
 use game::{FieldDimensions, Game, PlayerMargins, Side, Team};
 
 // Its players' margins, and how many of them are on the field.
-#[derive(Drop)]
+#[derive(Clone, Copy)]
 pub struct Seen {
     pub margins: [PlayerMargins; 20],
     pub on_field: usize,

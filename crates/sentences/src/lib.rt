@@ -1,4 +1,5 @@
 // The line by which the coach is told a verdict other than Legal, and why, as "Home 4 illegal: own penalty area".
+#![tactic(auto)]
 ghost use Rattle.std.specs.Prelude.{◌≡◌, ◌+◌, ◌≤◌, length, take, drop};
 ghost use Rattle.lists.specs.Put.{fronted_into};
 ghost use Rattle.lines.specs.Over.{over};
@@ -13,7 +14,7 @@ use game::{Positioning, Side};
 pub const LONGEST: usize = 74;
 
 // Where a piece of a line stands in the text of all words: its first place, and its length.
-#[derive(Drop)]
+#[derive(Clone, Copy)]
 struct Part(usize, usize);
 
 // Of a side's word, with a blank after it.

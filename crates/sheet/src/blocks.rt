@@ -12,7 +12,7 @@ use game::{
 };
 
 // The first `count` of the numbers and values, each a line of this kind and side.
-#[derive(Drop)]
+#[derive(Clone, Copy)]
 pub struct Block {
     pub kind: u32,
     pub side: u32,
@@ -22,7 +22,7 @@ pub struct Block {
 }
 
 // The lines of a place, 3 or 0: the side and the number of each, and their values.
-#[derive(Drop)]
+#[derive(Clone, Copy)]
 pub struct PlaceLines {
     pub lines: usize,
     pub side: u32,

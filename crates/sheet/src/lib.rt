@@ -1,4 +1,5 @@
 // The sheet: a decision as lines of text.
+#![tactic(auto)]
 mod blocks;
 mod text;
 

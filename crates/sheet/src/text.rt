@@ -11,7 +11,7 @@ use game::Decision;
 use lines::Row;
 
 // What is answered: the number of a refusal, or how many bytes were written.
-#[derive(Drop)]
+#[derive(Clone, Copy)]
 pub enum SheetAnswer {
     Refused(u8),
     Written(usize),

@@ -1,4 +1,5 @@
 // The places that are tried for a penalized player, the wanted one first: one at a time, and how many there are.
+#![tactic(auto)]
 ghost use Rattle.std.specs.Prelude.{◌≡◌, length};
 ghost use Rattle.lists.specs.Gather.{flat_to};
 ghost use Rattle.floats.specs.Values.{Within};
@@ -8,7 +9,7 @@ ghost use Rattle.tries.specs.Tries as Spec;
 use floats::{clamp, from_count, is_nan};
 
 // How far the candidates after the first go: the turns, one for each step out, and how many candidates these give.
-#[derive(Drop)]
+#[derive(Clone, Copy)]
 pub struct Walk {
     pub turns: u16,
     pub count: u16,

@@ -1,4 +1,5 @@
 // The situation that words of 32 bits are, by the layout of the crate `columns`. A word past the end counts as 0, and one that is none of its column's values gives the first of them, or none.
+#![tactic(auto)]
 ghost use Rattle.std.specs.Prelude.{◌≡◌, ◌<◌, ◌≤◌};
 ghost use Rattle.columns.specs.Layout.{word_count};
 ghost use Rattle.words.specs.Words as Spec;
