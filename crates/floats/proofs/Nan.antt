@@ -47,8 +47,8 @@ nan_is (fin s m d) e = absurd (subst T (sym e) tt)
 pub number_bits : (f : Format) (b : ℕ) → b % top f ≤ ones f * hid f → T (not (nan_bits f b))
 number_bits f b h = subst (λ (t : Bool). T (not t)) (sym (nan_bits_above f b ∙ le-ltb (ones f * hid f) (b % top f) h)) tt
 
-pub nan_bits : (f : Format) (b : ℕ) → ones f * hid f < b % top f → of_bits f b ≡ nan
-nan_bits f b h = nan_is (of_bits f b) (sym (nan_bits_is f b) ∙ nan_bits_above f b ∙ lt-ltb (ones f * hid f) (b % top f) h)
+pub nan_bits_holds : (f : Format) (b : ℕ) → ones f * hid f < b % top f → of_bits f b ≡ nan
+nan_bits_holds f b h = nan_is (of_bits f b) (sym (nan_bits_is f b) ∙ nan_bits_above f b ∙ lt-ltb (ones f * hid f) (b % top f) h)
 
 -- ---- the difference of an infinity and itself
 pub inf_less_inf : sub binary32 (of_bits binary32 0x7f80_0000) (of_bits binary32 0x7f80_0000) ≡ nan
