@@ -1,5 +1,6 @@
 // Where a player stands, by the dimensions of the field.
 #![tactic(auto)]
+
 ghost use Rattle.std.specs.Prelude.{◌≡◌};
 ghost use Rattle.geometry.specs.Geometry as Spec;
 
