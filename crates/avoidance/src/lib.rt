@@ -52,6 +52,7 @@ fn is_goal_kick(set_play: SetPlay) -> bool
 }
 
 // Whether the avoidance region of a free kick (goal kicks, corner kicks and throw-ins too) is in effect.
+#[tactic(auto, unfolding(crate::specs::Avoidance::is_avoidance_region_active))]
 pub fn is_avoidance_region_active(game: Game) -> bool
     ensures { result ≡ Spec.is_avoidance_region_active game }
 {
@@ -67,6 +68,7 @@ pub fn is_avoidance_region_active(game: Game) -> bool
 }
 
 // The first test by which a player at this pose is in the avoidance region. For one on its own goal line, which is exempt, no distance is computed.
+#[tactic(auto, unfolding(crate::specs::Avoidance::region_condition))]
 fn region_condition(
     set_play: SetPlay,
     field: FieldDimensions,
@@ -99,6 +101,7 @@ fn region_condition(
 }
 
 // The test by which a player of the defending team is in the avoidance region of a free kick.
+#[tactic(auto, unfolding(crate::specs::Avoidance::avoidance_condition))]
 pub fn avoidance_condition(
     game: Game,
     field: FieldDimensions,
@@ -132,6 +135,7 @@ pub fn avoidance_condition(
 }
 
 // Whether a player of the defending team is in the avoidance region of a free kick.
+#[tactic(auto, unfolding(crate::specs::Avoidance::is_in_avoidance_region))]
 pub fn is_in_avoidance_region(
     game: Game,
     field: FieldDimensions,
