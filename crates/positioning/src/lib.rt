@@ -10,6 +10,7 @@ use game::{
 };
 
 // The condition of a kick-off.
+#[tactic(auto, unfolding(crate::specs::Positioning::kick_off_condition))]
 fn kick_off_condition(game: Game, field: FieldDimensions, side: Side, pose: PlayerPose) -> Condition
     ensures { result ≡ Spec.kick_off_condition game field side pose }
 {
@@ -44,6 +45,7 @@ fn kick_off_condition(game: Game, field: FieldDimensions, side: Side, pose: Play
 }
 
 // The condition of a penalty kick for a player of the kicking side.
+#[tactic(auto, unfolding(crate::specs::Positioning::attack_condition))]
 fn attack_condition(
     state: State,
     field: FieldDimensions,
@@ -72,6 +74,7 @@ fn attack_condition(
 }
 
 // The condition of a penalty kick. The goalkeeper of a side that does not kick is exempt: it stands on its goal line.
+#[tactic(auto, unfolding(crate::specs::Positioning::penalty_kick_condition, crate::specs::Positioning::defence_condition))]
 fn penalty_kick_condition(
     game: Game,
     field: FieldDimensions,
@@ -122,6 +125,7 @@ fn is_judged(game: Game, penalty: Penalty) -> bool
 }
 
 // The condition that settles the verdict on a player's position.
+#[tactic(auto, unfolding(crate::specs::Positioning::condition_of))]
 pub fn condition_of(
     game: Game,
     field: FieldDimensions,
@@ -203,6 +207,7 @@ pub fn team_conditions(
 }
 
 // Whether a player stands where the rules of the set play forbid it. The limit in the goal area is `goal_area_excess`.
+#[tactic(auto, unfolding(crate::specs::Positioning::is_illegally_positioned))]
 pub fn is_illegally_positioned(
     game: Game,
     field: FieldDimensions,

@@ -22,6 +22,7 @@ fn is_size(x: f32) -> bool
     is_within(0.0, x, 64.0)
 }
 
+#[tactic(auto, unfolding(crate::specs::Refusals::field_fits))]
 fn field_fits(f: FieldDimensions) -> bool
     ensures { result ≡ Spec.field_fits f }
 {
@@ -47,6 +48,7 @@ fn is_coordinate(x: f32) -> bool
     is_within(-64.0, x, 64.0)
 }
 
+#[tactic(auto, unfolding(crate::specs::Refusals::pose_fits))]
 fn pose_fits(p: PlayerPose) -> bool
     ensures { result ≡ Spec.pose_fits p }
 {
@@ -172,6 +174,7 @@ fn first_failing(field: bool, poses: bool, ball: bool, numbers: bool, distance: 
 }
 
 // The number of the first refusal, or 0 for none.
+#[tactic(auto, unfolding(crate::specs::Refusals::refusal_of, crate::specs::Refusals::requirements_of, crate::specs::Refusals::numbers_fit, crate::specs::Refusals::poses_fit, crate::specs::Refusals::lists_fit))]
 pub fn refusal<'a>(s: Situation, xs: &'a [f32], ys: &'a [f32]) -> u8
     ensures { result ≡ Spec.refusal_of s xs.now ys.now }
 {
