@@ -1,5 +1,6 @@
 // Players as numbers in an order: of two keys the lower one comes first.
 #![tactic(auto)]
+
 ghost use Rattle.std.specs.Prelude.{◌≡◌, get_or};
 ghost use Rattle.keys.specs.Keys as Spec;
 
