@@ -1,5 +1,6 @@
 // A line of the sheet: four decimal numbers, each right-justified with blanks in 11 columns, then a line feed.
 #![tactic(auto)]
+
 ghost use Rattle.std.specs.Prelude.{◌≡◌, ◌+◌, ◌≤◌, length};
 ghost use Rattle.lists.specs.Put.{fronted, fronted_into};
 ghost use Rattle.lines.specs.Over.{over};
