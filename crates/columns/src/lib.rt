@@ -1,5 +1,6 @@
 // Which words of 32 bits are within their columns, and which are a situation: `layout::WORDS` of them, all within.
 #![tactic(auto)]
+
 pub mod layout;
 
 ghost use Rattle.std.specs.Prelude.{◌≡◌, ◌≤◌, length};
