@@ -1,7 +1,6 @@
 -- What a call of `judge` asks for, by its words: `judge [COMMAND] [FILE]`. Definitions only.
 use Rattle.std.specs.Prelude.{Bool, ◌&&◌, cond, List, [], ◌∷◌, ℕ, zero, suc, eqb, length, get_or}
 use Rattle.lists.specs.Every.{every_to}
-use Rattle.arguments.specs.declared.Command.{Command}
 use Rattle.arguments.specs.declared.Command.TheVariants.{Sheet, Display, Coach, Read, Help}
 use Rattle.arguments.specs.declared.MaybeCommand.{MaybeCommand}
 use Rattle.arguments.specs.declared.MaybeCommand.TheVariants.{NoCommand, Of}

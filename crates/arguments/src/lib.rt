@@ -1,5 +1,6 @@
 // What a call of `judge` asks for, by its words: `judge [COMMAND] [FILE]`.
 #![tactic(auto)]
+
 ghost use Rattle.std.specs.Prelude.{◌≡◌, length};
 ghost use Rattle.arguments.specs.Arguments as Spec;
 
