@@ -1,5 +1,6 @@
 // Decimal numbers from a text, separated by blanks, tabs, line feeds or carriage returns.
 #![tactic(auto)]
+
 ghost use Rattle.std.specs.Prelude.{◌≡◌, ◌<◌, ◌≤◌};
 ghost use Rattle.numbers.specs.Numbers as Spec;
 ghost use Rattle.numbers.specs.Walk as Walk;
