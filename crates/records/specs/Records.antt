@@ -4,7 +4,6 @@ use Rattle.lists.specs.Every.{every_to}
 use Rattle.numbers.specs.declared.Reading.{Reading}
 use Rattle.numbers.specs.declared.Reading.TheVariants as Numbers
 use Rattle.numbers.specs.Numbers.{numbers_of, reading_of, stored}
-use Rattle.records.specs.declared.Record.{Record}
 use Rattle.records.specs.declared.Found.{Found}
 use Rattle.records.specs.declared.Found.TheVariants.{Broken, Whole}
 

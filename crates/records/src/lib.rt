@@ -3,6 +3,7 @@
 // A record is a head, an input and an answer, one after the other. The head is a line of 45 bytes: four decimal numbers, each right-justified with blanks in 11
 // columns, and a line feed. They are the record's kind, the room that is lent, the number of bytes of the input and that of the answer.
 #![tactic(auto)]
+
 ghost use Rattle.std.specs.Prelude.{◌≡◌, ◌≤◌, length, get_or};
 ghost use Rattle.records.specs.Records as Spec;
 

@@ -1,0 +1,23 @@
+use Rattle.std.proofs.Common.{◌-◌, length, arith}
+use borrow.Author.Tests.{lt-ltb}
+use Rattle.records.specs.Records.{record_at}
+use Rattle.records.proofs.Lying.{at_head, at_no_head, at_fault}
+use Rattle.records.proofs.record_at.Goals as goal
+
+pub returns-then-list-at : goal.returns-then-list-at
+unfolding record_at
+returns-then-list-at c = simp (lt-ltb (length c.args.list.now - c.args.at) 45 (omega arith))
+
+pub returns-then-list-at-lt45 : goal.returns-then-list-at-lt45
+unfolding record_at
+returns-then-list-at-lt45 c = simp (lt-ltb _ _ c.if-list-at-lt45.true)
+
+pub returns-in_default : goal.returns-in_default
+returns-in_default c = at_fault _ _ c.read_numbers-reading.result c.if-list-at-lt45.false c.read_numbers-reading.ensures.value c.in_default.not-Read
+
+pub returns-then-n-list : goal.returns-then-n-list
+returns-then-n-list c =
+    at_head _ _ _ c.if-list-at-lt45.false c.read_numbers-reading.ensures.value _ c.in-Read.is _ _ c.if-n-list.true c.read_numbers-reading.ensures.numbers_after c.framed.ensures
+
+pub returns : goal.returns
+returns c = at_no_head _ _ _ c.if-list-at-lt45.false c.read_numbers-reading.ensures.value _ c.in-Read.is c.if-n-list.false
