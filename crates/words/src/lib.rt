@@ -11,6 +11,8 @@ use game::{
     Situation, State, Team, Wish,
 };
 
+#[tactic(auto, unfolding(crate::specs::Words::word_at))]
+
 fn word_at(words: &[u32], i: usize) -> u32
     ensures { result ≡ Spec.word_at words.now i }
 {
@@ -20,17 +22,23 @@ fn word_at(words: &[u32], i: usize) -> u32
     0
 }
 
+#[tactic(auto, unfolding(crate::specs::Words::float_at))]
+
 fn float_at(words: &[u32], i: usize) -> f32
     ensures { result ≡ Spec.float_at words.now i }
 {
     floats::from_bits(word_at(words, i))
 }
 
+#[tactic(auto, unfolding(crate::specs::Words::flag_at))]
+
 fn flag_at(words: &[u32], i: usize) -> bool
     ensures { result ≡ Spec.flag_at words.now i }
 {
     word_at(words, i) == 1
 }
+
+#[tactic(auto, unfolding(crate::specs::Words::side_of))]
 
 pub fn side_of(word: u32) -> Side
     ensures { result ≡ Spec.side_of word }
@@ -41,6 +49,8 @@ pub fn side_of(word: u32) -> Side
     Side::Home
 }
 
+#[tactic(auto, unfolding(crate::specs::Words::sides_of))]
+
 fn sides_of(word: u32) -> SideMapping
     ensures { result ≡ Spec.sides_of word }
 {
@@ -49,6 +59,8 @@ fn sides_of(word: u32) -> SideMapping
     }
     SideMapping::HomeDefendsLeftGoal
 }
+
+#[tactic(auto, unfolding(crate::specs::Words::phase_of))]
 
 fn phase_of(word: u32) -> Phase
     ensures { result ≡ Spec.phase_of word }
@@ -67,6 +79,8 @@ fn phase_of(word: u32) -> Phase
     Phase::FirstHalf
 }
 
+#[tactic(auto, unfolding(crate::specs::Words::state_of))]
+
 fn state_of(word: u32) -> State
     ensures { result ≡ Spec.state_of word }
 {
@@ -84,6 +98,8 @@ fn state_of(word: u32) -> State
     }
     State::Initial
 }
+
+#[tactic(auto, unfolding(crate::specs::Words::set_play_of))]
 
 fn set_play_of(word: u32) -> SetPlay
     ensures { result ≡ Spec.set_play_of word }
@@ -104,6 +120,8 @@ fn set_play_of(word: u32) -> SetPlay
     }
     SetPlay::NoSetPlay
 }
+
+#[tactic(auto, unfolding(crate::specs::Words::penalty_of))]
 
 fn penalty_of(word: u32) -> Penalty
     ensures { result ≡ Spec.penalty_of word }
@@ -131,6 +149,8 @@ fn penalty_of(word: u32) -> Penalty
     Penalty::NoPenalty
 }
 
+#[tactic(auto, unfolding(crate::specs::Words::restart_kind_of))]
+
 fn restart_kind_of(word: u32) -> RestartKind
     ensures { result ≡ Spec.restart_kind_of word }
 {
@@ -147,6 +167,8 @@ fn restart_kind_of(word: u32) -> RestartKind
     RestartKind::KickOff
 }
 
+#[tactic(auto, unfolding(crate::specs::Words::maybe_side_of))]
+
 fn maybe_side_of(word: u32) -> MaybeSide
     ensures { result ≡ Spec.maybe_side_of word }
 {
@@ -157,6 +179,8 @@ fn maybe_side_of(word: u32) -> MaybeSide
     MaybeSide::NoSide
 }
 
+#[tactic(auto, unfolding(crate::specs::Words::maybe_number_of))]
+
 fn maybe_number_of(word: u32) -> MaybeNumber
     ensures { result ≡ Spec.maybe_number_of word }
 {
@@ -166,6 +190,8 @@ fn maybe_number_of(word: u32) -> MaybeNumber
     MaybeNumber::NoNumber
 }
 
+#[tactic(auto, unfolding(crate::specs::Words::number_of))]
+
 fn number_of(word: u32) -> u8
     ensures { result ≡ Spec.number_of word }
 {
@@ -174,6 +200,8 @@ fn number_of(word: u32) -> u8
     }
     0
 }
+
+#[tactic(auto, unfolding(crate::specs::Words::field_of))]
 
 fn field_of(words: &[u32]) -> FieldDimensions
     ensures { result ≡ Spec.field_of words.now }
@@ -196,6 +224,8 @@ fn field_of(words: &[u32]) -> FieldDimensions
     }
 }
 
+#[tactic(auto, unfolding(crate::specs::Words::game_of))]
+
 fn game_of(words: &[u32]) -> Game
     ensures { result ≡ Spec.game_of words.now }
 {
@@ -216,6 +246,7 @@ fn game_of(words: &[u32]) -> Game
 }
 
 // The four words of a pose.
+#[tactic(auto, unfolding(crate::specs::Words::pose_at))]
 fn pose_at(words: &[u32], i: usize) -> PlayerPose
     requires { i ≤ word_count }
     ensures { result ≡ Spec.pose_at words.now i }
@@ -229,6 +260,7 @@ fn pose_at(words: &[u32], i: usize) -> PlayerPose
 }
 
 // A pose with the word before it, which says whether it is there.
+#[tactic(auto, unfolding(crate::specs::Words::seen_pose_at))]
 fn seen_pose_at(words: &[u32], i: usize) -> SeenPose
     requires { i < word_count }
     ensures { result ≡ Spec.seen_pose_at words.now i }
@@ -239,6 +271,8 @@ fn seen_pose_at(words: &[u32], i: usize) -> SeenPose
     }
     SeenPose::Absent
 }
+
+#[tactic(auto, unfolding(crate::specs::Words::reference_pose_at))]
 
 fn reference_pose_at(words: &[u32], i: usize) -> ReferencePose
     requires { i < word_count }
@@ -252,6 +286,7 @@ fn reference_pose_at(words: &[u32], i: usize) -> ReferencePose
 }
 
 // The player k of the 40.
+#[tactic(auto, unfolding(crate::specs::Words::player_of))]
 fn player_of(words: &[u32], k: usize) -> Player
     requires { k < 40 }
     ensures { result ≡ Spec.player_of words.now k }
@@ -271,6 +306,7 @@ fn player_of(words: &[u32], k: usize) -> Player
 }
 
 // The players and the goalkeeper of Home (0) or Away (1).
+#[tactic(auto, unfolding(crate::specs::Words::team_in))]
 fn team_in(words: &[u32], side: usize) -> Team
     requires { side ≤ 1 }
     ensures { result ≡ Spec.team_in words.now side }
@@ -288,6 +324,8 @@ fn team_in(words: &[u32], side: usize) -> Team
         goalkeeper,
     }
 }
+
+#[tactic(auto, unfolding(crate::specs::Words::restart_of, crate::specs::Words::maybe_restart_of))]
 
 fn maybe_restart_of(words: &[u32]) -> MaybeRestart
     ensures { result ≡ Spec.maybe_restart_of words.now }
@@ -318,6 +356,7 @@ fn maybe_restart_of(words: &[u32]) -> MaybeRestart
 }
 
 // The wish, with the side and the number that it may name.
+#[tactic(auto, unfolding(crate::specs::Words::wish_from, crate::specs::Words::wish_of))]
 fn wish_of(words: &[u32]) -> Wish
     ensures { result ≡ Spec.wish_of words.now }
 {
@@ -339,6 +378,7 @@ fn wish_of(words: &[u32]) -> Wish
 }
 
 // The situation that the words are.
+#[tactic(auto, unfolding(crate::specs::Words::ball_of, crate::specs::Words::situation_of))]
 pub fn situation_of(words: &[u32]) -> Situation
     ensures { result ≡ Spec.situation_of words.now }
 {
