@@ -1,18 +1,16 @@
 -- A line by the four numbers and the byte that are read of it. Assumes nothing.
-use mathlib.Core.Path.{◌≡◌, refl, sym, ap, ap₂, ◌∙◌}
+use mathlib.Core.Path.{◌≡◌, refl, sym, ap, ◌∙◌}
 use mathlib.Core.Bool.{Bool, true, false, not, ◌&&◌, ◌||◌, cond}
-use mathlib.Core.List.{List, []}
-use Prim.Native.Nat.{ℕ, ◌+◌, ◌-◌, ◌*◌, ◌/◌, ◌≤◌, ◌<◌}
+use mathlib.Core.List.{List}
+use Prim.Native.Nat.{ℕ, ◌+◌, ◌-◌, ◌*◌, ◌≤◌, ◌<◌}
 use native.Mathlib.Nat.{add-zero, min-le_right}
 use native.Mathlib.Omega.{arith}
 use borrow.Author.Tests.{eq-eqb, ne_eqb, le-ltb}
-use lib.Dec.{eqb, ltb, leb}
+use lib.Dec.{eqb, ltb}
 use lib.ListN.{length, take, drop, get_or, length-take, length-drop}
 use lib.Seq.{get_or-take, get_or-drop, take-take, drop-drop, length-take-le}
 use Rattle.lists.proofs.Bools.{neither}
-use Rattle.lines.specs.declared.Row.{Row}
 use Rattle.fields.specs.Fields.{after_blanks, is_field, field_value, columns_from, is_line, row_in, line_read, line_at, line_count, value_in}
-use Rattle.fields.specs.declared.ReadLine.{ReadLine}
 use Rattle.fields.specs.declared.ReadLine.TheVariants.{NoLine, Line}
 use Rattle.fields.proofs.Columns.{small_written}
 use Rattle.fields.proofs.Walks.{columns_rest}

@@ -2,17 +2,16 @@
 use mathlib.Core.Path.{◌≡◌, refl, sym, ap, ◌∙◌}
 use mathlib.Core.Bool.{Bool, true, false, not, ◌&&◌, cond}
 use mathlib.Core.List.{List, [], ◌∷◌}
-use Prim.Native.Nat.{ℕ, zero, suc, ◌+◌, ◌-◌, ◌*◌, ◌≤◌, ◌<◌}
+use Prim.Native.Nat.{ℕ, suc, ◌+◌, ◌-◌, ◌*◌, ◌≤◌, ◌<◌}
 use native.Mathlib.Nat.{add-zero}
 use native.Mathlib.Numerals.{add-one}
 use native.Mathlib.Omega.{arith}
 use borrow.Author.Tests.{eq-eqb, ne_eqb, le-leb, lt-leb}
-use lib.Dec.{eqb, leb}
 use lib.ListN.{length, take, drop, get_or, length-drop, drop_of_length-le}
 use lib.Seq.{drop-cons, drop_at, drop-drop, get_or-take, get_or-drop, take-add, length-take-le, slice, slice-cons}
 use Rattle.numbers.specs.Numbers.{is_digit, is_small, all_digits, value_from, value_of}
 use Rattle.numbers.proofs.Continued.{value_grows}
-use Rattle.fields.specs.Fields.{blank_first, blanks_in, after_blanks, is_some, has_leading_zero, is_written, is_field, field_value, columns_from, digits_from, value_in}
+use Rattle.fields.specs.Fields.{blank_first, blanks_in, after_blanks, is_some, has_leading_zero, is_written, columns_from, digits_from, value_in}
 
 -- ---- columns of a text
 pub length_columns_from : (text : List ℕ) (at : ℕ) → at + 11 ≤ length text → length (columns_from at text) ≡ 11

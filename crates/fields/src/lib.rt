@@ -1,5 +1,6 @@
 // Lines of the sheet, read back from a text: four decimal numbers, each right-justified with blanks in 11 columns, then a line feed.
 #![tactic(auto)]
+
 ghost use Rattle.std.specs.Prelude.{◌≡◌, ◌+◌, ◌≤◌, length, take, drop};
 ghost use Rattle.std.proofs.Math.Seq.{slice};
 ghost use Rattle.fields.specs.Fields as Spec;

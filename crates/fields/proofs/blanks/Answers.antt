@@ -1,0 +1,23 @@
+use Rattle.std.proofs.Common.{rules, sym, ◌∙◌, arith}
+use Rattle.fields.specs.Fields.{columns_from}
+use Rattle.fields.proofs.Walks.{length_columns_from, column_byte, blank_turn, blank_stop, blank_end}
+use Rattle.fields.proofs.blanks.Goals as goal
+
+pub returns-then-text-at-ne32 : goal.returns-then-text-at-ne32
+returns-then-text-at-ne32 c =
+    let long = length_columns_from c.args.text.now c.args.at c.requires in
+    blank_stop (columns_from c.args.at c.args.text.now) c.loop-n.n (omega (arith, c.loop-n-test.true, long))
+    (λ e. c.if-text-at-ne32.true (sym (column_byte c.args.text.now c.args.at c.loop-n.n c.loop-n-test.true) ∙ e)) c.loop-n.invariant.1
+
+pub loop-n-preserved : goal.loop-n-preserved
+loop-n-preserved c =
+    let long = length_columns_from c.args.text.now c.args.at c.requires in (
+      search rules,
+      blank_turn (columns_from c.args.at c.args.text.now) c.loop-n.n (omega (arith, c.loop-n-test.true, long))
+          (column_byte c.args.text.now c.args.at c.loop-n.n c.loop-n-test.true ∙ c.if-text-at-ne32.false) c.loop-n.invariant.1,
+    )
+
+pub returns : goal.returns
+returns c =
+    let long = length_columns_from c.args.text.now c.args.at c.requires in
+    blank_end (columns_from c.args.at c.args.text.now) c.loop-n.n (omega (arith, c.loop-n-test.false, long)) c.loop-n.invariant.1
