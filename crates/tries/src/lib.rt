@@ -1,5 +1,6 @@
 // The places that are tried for a penalized player, the wanted one first: one at a time, and how many there are.
 #![tactic(auto)]
+
 ghost use Rattle.std.specs.Prelude.{◌≡◌, length};
 ghost use Rattle.lists.specs.Gather.{flat_to};
 ghost use Rattle.floats.specs.Values.{Within};
