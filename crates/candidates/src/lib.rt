@@ -1,5 +1,6 @@
 // The places that are tried for a penalized player, as a list in memory that the caller lends.
 #![tactic(auto)]
+
 ghost use Rattle.std.specs.Prelude.{◌≡◌, true, ◌<◌, ◌≤◌, length};
 ghost use Rattle.lists.specs.Gather.{flat_to};
 ghost use Rattle.lists.specs.Put.{count_if, put_if, fronted};
