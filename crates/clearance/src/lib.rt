@@ -1,5 +1,6 @@
 // How much space there is at a point, as place_for_penalty measures it.
 #![tactic(auto)]
+
 ghost use Rattle.std.specs.Prelude.{◌≡◌, map, ◌<◌};
 ghost use Rattle.clearance.specs.Clearance as Spec;
 
