@@ -6,7 +6,7 @@ use mathlib.Core.Bool.{Bool, true, false, not, cond, ◌&&◌}
 use Prim.Native.Nat.{ℕ}
 use native.Mathlib.Nat.{le_antisymm}
 use native.Mathlib.Omega.{arith}
-use borrow.Author.Tests.{eqb-true, eq-eqb}
+use borrow.Author.Tests.{eq-eqb}
 use lib.Dec.{T}
 use lib.Ieee.{Float, binary32, neg, lt, eq, of_bits}
 use Rattle.lists.proofs.Bools.{both_true}
@@ -16,7 +16,7 @@ use Rattle.floats.specs.Height.{height}
 use Rattle.floats.specs.Values.{pos_zero, Alike, Number}
 use Rattle.floats.proofs.Laws.Signs.{alike_sym, alike_trans, alike_abs, alike_neg, lt_neg}
 use Rattle.floats.proofs.Laws.Zeros.{alike_lt_left, alike_lt_right, alike_eq, zero_plain, zero_alike}
-use Rattle.floats.proofs.Laws.Height.{height_eq, height_same}
+use Rattle.floats.proofs.Laws.Height.{height_eq}
 use Rattle.floats.proofs.Laws.Order.{lt→<, nlt→≤, pos_zero_number, neg_number}
 use Rattle.game.specs.Game.{opponent, is_shootout}
 use Rattle.game.specs.declared.Ball.{Ball}

@@ -1,5 +1,6 @@
 // What follows when the ball leaves the field.
 #![tactic(auto)]
+
 ghost use Rattle.std.specs.Prelude.{◌≡◌};
 ghost use Rattle.game.specs.Game.{opponent};
 ghost use Rattle.ball.specs.Ball as Spec;
@@ -43,6 +44,7 @@ fn is_penalty_shot(kind: RestartKind) -> bool
 }
 
 // Whether a goal for a side is valid, given the restart that is in effect and whether invalid goals are judged at all.
+#[tactic(auto, unfolding(crate::specs::Ball::judge_restart_goal))]
 pub fn judge_goal(
     invalid_goals_judged: bool,
     restart: MaybeRestart,
@@ -131,6 +133,7 @@ fn is_shot_taken(restart: MaybeRestart) -> bool
 }
 
 // The judgment in a penalty shoot-out, where there is a kicking side: a goal, or the end of the shot once the ball is out or has come to rest.
+#[tactic(auto, unfolding(crate::specs::Ball::judge_shot))]
 fn judge_shootout(
     kicking_side: MaybeSide,
     sides: SideMapping,
@@ -161,6 +164,7 @@ fn judge_shootout(
 }
 
 // The judgment outside a penalty shoot-out, where the side is known that defends the half in which the ball is.
+#[tactic(auto, unfolding(crate::specs::Ball::judge_half))]
 fn judge_play(
     defending_side: Side,
     attacking_players: usize,
@@ -206,6 +210,7 @@ fn judge_play(
 
 // What is called when the ball has left the field, or a penalty shot is over. `home_players` and `away_players` count the players of
 // each side on the field, and `ball_rested` tells whether the ball has come to rest since the kick.
+#[tactic(auto, unfolding(crate::specs::Ball::ball_judgment))]
 pub fn check_ball_out(
     game: Game,
     field: FieldDimensions,
