@@ -1,5 +1,6 @@
 // Who has moved from its reference pose. It is asked in every state; when a robot may move is for the caller to know.
 #![tactic(auto)]
+
 ghost use Rattle.std.specs.Prelude.{◌≡◌};
 ghost use Rattle.motion.specs.Motion as Spec;
 
