@@ -1,5 +1,6 @@
 // How many players a team has on the field.
 #![tactic(auto)]
+
 ghost use Rattle.std.specs.Prelude.{◌≡◌, ◌<◌};
 ghost use Rattle.lists.specs.Put.{count_if};
 ghost use Rattle.counts.specs.Counts as Spec;
