@@ -1,5 +1,6 @@
 // What several items of a decision, and the coach's lines, use of a side.
 #![tactic(auto)]
+
 ghost use Rattle.std.specs.Prelude.{◌≡◌};
 ghost use Rattle.seen.specs.Seen as Spec;
 
@@ -13,6 +14,7 @@ pub struct Seen {
 }
 
 // One function for all that asks for any of them, for speed: called in several places it is compiled once, with its loops inside it, and leaves the teams where they are.
+#[tactic(auto, unfolding(crate::specs::Seen::side_seen))]
 pub fn side_seen(game: Game, field: FieldDimensions, side: Side, team: Team) -> Seen
     ensures { result ≡ Spec.side_seen game field side team }
 {
