@@ -57,6 +57,7 @@ fn count_if(wanted: bool, n: usize) -> usize
 }
 
 // A block of at most one line.
+#[tactic(auto, unfolding(crate::specs::Blocks::block_rows))]
 fn block_if(wanted: bool, kind: u32, side: u32, number: u8) -> Block
     ensures { Holds result (only_if wanted (Spec.row kind side number 0)) }
 {
@@ -71,6 +72,7 @@ fn block_if(wanted: bool, kind: u32, side: u32, number: u8) -> Block
 }
 
 // The lines of the players whose verdict is not Legal. A line that is not wanted is written over by the next one.
+#[tactic(auto, unfolding(lists::specs::Gather::flat_to, crate::specs::Rows::verdict_rows, crate::specs::Blocks::block_rows))]
 fn verdict_block(side: Side, verdicts: [PlayerVerdict; 20]) -> Block
     ensures { Holds result (Spec.verdict_rows side verdicts) }
 {
@@ -98,6 +100,7 @@ fn verdict_block(side: Side, verdicts: [PlayerVerdict; 20]) -> Block
 }
 
 // The lines of the players of a list, with these values.
+#[tactic(auto, unfolding(crate::specs::Blocks::block_rows))]
 fn list_block(kind: u32, side: Side, list: PlayerList, values: [u8; 20]) -> Block
     ensures { HoldsList result kind side values list }
 {
@@ -153,6 +156,7 @@ fn judgment_side(judgment: BallJudgment) -> u32
 }
 
 // All lines of a decision but those of its place.
+#[tactic(auto, unfolding(lists::specs::Gather::flat_to, crate::specs::Blocks::all_rows, crate::specs::Rows::rows_of, crate::specs::Rows::ball_rows))]
 pub(crate) fn blocks_of(d: Decision) -> [Block; 10]
     ensures few { Few result }
     ensures place_value { all_rows result ++ Spec.place_rows d.place ≡ Spec.rows_of d }
@@ -191,6 +195,7 @@ pub(crate) fn blocks_of(d: Decision) -> [Block; 10]
 }
 
 // A number of a place on the sheet: a zero of either sign as 0, any other by its pattern.
+#[tactic(auto, unfolding(crate::specs::Rows::placed_value))]
 fn placed_value(x: f32) -> u32
     ensures { result ≡ Spec.placed_value x }
 {
@@ -201,6 +206,7 @@ fn placed_value(x: f32) -> u32
 }
 
 // The three lines of a place with this side and number.
+#[tactic(auto, unfolding(crate::specs::Blocks::place_line_rows))]
 fn three_lines(side: u32, number: u32, x: f32, y: f32, z: f32) -> PlaceLines
     ensures { (result.lines ≡ 3) × (place_line_rows result ≡ Spec.value_rows 7 side number (x ∷ y ∷ z ∷ [])) }
 {
@@ -218,6 +224,7 @@ fn three_lines(side: u32, number: u32, x: f32, y: f32, z: f32) -> PlaceLines
 }
 
 // The lines of a place.
+#[tactic(auto, unfolding(crate::specs::Rows::place_rows, crate::specs::Blocks::place_line_rows))]
 pub(crate) fn lines_of_place(place: Placement) -> PlaceLines
     ensures { (result.lines ≡ length (Spec.place_rows place)) × (place_line_rows result ≡ Spec.place_rows place) }
 {

@@ -49,6 +49,7 @@ fn block_lines(sheet: &mut [u8], at: usize, b: Block) -> usize
 }
 
 // Writes the lines of all blocks, and answers the place after them.
+#[tactic(auto, unfolding(lists::specs::Gather::flat_to))]
 fn all_lines(sheet: &mut [u8], at: usize, blocks: [Block; 10]) -> usize
     requires { Few blocks × (at + 45 * length (all_rows blocks) ≤ length sheet.old) }
     ensures value { result ≡ at + 45 * length (all_rows blocks) }
@@ -65,6 +66,7 @@ fn all_lines(sheet: &mut [u8], at: usize, blocks: [Block; 10]) -> usize
 }
 
 // How many lines the blocks have.
+#[tactic(auto, unfolding(lists::specs::Gather::flat_to))]
 fn line_count(blocks: [Block; 10]) -> usize
     requires { Few blocks }
     ensures { (result ≡ length (all_rows blocks)) × (result ≤ 200) }
@@ -90,6 +92,7 @@ pub fn lines_following(d: Decision) -> usize
 }
 
 // Writes the lines of a place, where there is one.
+#[tactic(auto, unfolding(lines::specs::Line::lines_of))]
 fn place_lines(sheet: &mut [u8], at: usize, placed: PlaceLines)
     requires { at + 45 * length (place_line_rows placed) ≤ length sheet.old }
     ensures { sheet.new ≡ over at (lines_of (place_line_rows placed)) sheet.old }
