@@ -150,6 +150,6 @@ pub fn write_sentences(refusal: u8, s: Situation, text: &mut [u8]) -> SheetAnswe
     if text.len() < end {
         return SheetAnswer::Refused(8);
     }
-    let n = bytes::copy(&lines[..end], text);
-    SheetAnswer::Written(n)
+    text[..end].copy_from_slice(&lines[..end]);
+    SheetAnswer::Written(end)
 }

@@ -16,13 +16,15 @@ use items::{Item, Who};
 const LINE: usize = 128;
 
 // Writes a piece over the bytes from a place on, and answers the place after it.
+#[tactic(auto, unfolding(lines::specs::Over::over))]
 fn put(out: &mut [u8], at: usize, piece: &[u8]) -> usize
     requires { at + length piece.now ≤ length out.old }
     ensures value { result ≡ at + length piece.now }
     ensures out_after { out.new ≡ over at piece.now out.old }
 {
-    let n = bytes::copy(piece, &mut out[at..]);
-    at + n
+    let end = at + piece.len();
+    out[at..end].copy_from_slice(piece);
+    end
 }
 
 // The same of a number in decimal.

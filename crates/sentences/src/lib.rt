@@ -74,14 +74,16 @@ fn digits_of(number: u8) -> usize
 }
 
 // Writes a part of a text over the lent bytes from a place on, and answers the place after it.
+#[tactic(auto, unfolding(lines::specs::Over::over))]
 fn put(out: &mut [u8], at: usize, words: &[u8], from: usize, size: usize) -> usize
     requires { (from + size ≤ length words.now) × (at + size ≤ length out.old) }
     ensures value { result ≡ at + size }
     ensures out_after { out.new ≡ over at (take size (drop from words.now)) out.old }
 {
     let to = from + size;
-    let n = bytes::copy(&words[from..to], &mut out[at..]);
-    at + n
+    let end = at + size;
+    out[at..end].copy_from_slice(&words[from..to]);
+    end
 }
 
 // The same for a piece of a line. The words of all lines stand here, one after the other, with the blanks and colons beside them.
