@@ -5,8 +5,11 @@ use game::{
     Ball, FieldDimensions, Game, MaybeNumber, MaybeRestart, MaybeSide, Penalty, Phase, Player,
     PlayerPose, ReferencePose, SeenPose, SetPlay, SideMapping, Situation, State, Team, Wish,
 };
-use libc::STDOUT_FILENO;
 use sheet::SheetAnswer;
+use std::io;
+
+// Room for the sheet.
+const ROOM: usize = 4096;
 
 fn field() -> FieldDimensions {
     FieldDimensions {
@@ -122,18 +125,14 @@ fn case_a() -> Situation {
     }
 }
 
-fn main() {
+fn main(rt: HostRuntime) -> io::Result<()> {
     let s = case_a();
     let xs = [0.0f32; 1];
     let ys = [0.0f32; 1];
-    let mut text = io::buffer();
+    let mut text = [0u8; ROOM];
     let answer = call::write_sheet(SheetFor::Desk, s, &xs[..0], &ys[..0], &mut text);
     match answer {
-        SheetAnswer::Refused(_) => {
-            io::write_all(STDOUT_FILENO, b"refused\n");
-        }
-        SheetAnswer::Written(n) => {
-            io::write_all(STDOUT_FILENO, replies::front(&text, n));
-        }
+        SheetAnswer::Refused(_) => println!(rt; "refused"),
+        SheetAnswer::Written(n) => rt.write_all(replies::front(&text, n)),
     }
 }

@@ -5,9 +5,9 @@ mod sheets;
 
 ghost use Rattle.std.specs.Prelude.{◌≤◌, length};
 
-use libc::{STDIN_FILENO, STDOUT_FILENO};
 use records::{Found, Record};
 use sheets::Asked;
+use std::io;
 use std::num::wrapping_add_u64;
 
 // Room for the list.
@@ -44,36 +44,34 @@ fn agrees(list: &[u8], r: Record) -> bool
 }
 
 // Counts a record, after which the list goes on at a place. Where it does not agree, that is written.
-fn counted(t: Tally, same: bool, at: usize) -> Tally {
+fn counted(rt: &impl Print, t: Tally, same: bool, at: usize) -> io::Result<Tally> {
     let records = wrapping_add_u64(t.records, 1);
     if same {
         let agree = wrapping_add_u64(t.agree, 1);
-        return Tally { agree, records, at };
+        return Ok(Tally { agree, records, at });
     }
-    io::write_all(STDOUT_FILENO, b"record ");
-    io::print_decimal(STDOUT_FILENO, records);
-    io::write_all(STDOUT_FILENO, b" differs\n");
-    Tally {
+    println!(rt; "record {records} differs")?;
+    Ok(Tally {
         agree: t.agree,
         records,
         at,
-    }
+    })
 }
 
 // One record on. Where one is broken, it is not known where the next begins.
-fn step(list: &[u8], t: Tally) -> Tally {
+fn step(rt: &impl Print, list: &[u8], t: Tally) -> io::Result<Tally> {
     let found = records::record_at(list, t.at);
     match found {
-        Found::Whole(r) => counted(t, agrees(list, r), r.next),
+        Found::Whole(r) => counted(rt, t, agrees(list, r), r.next),
         Found::Broken => {
-            io::write_all(STDOUT_FILENO, b"broken: ");
-            counted(t, false, list.len())
+            print!(rt; "broken: ")?;
+            counted(rt, t, false, list.len())
         }
     }
 }
 
 // All records, up to the end of the list or the first broken one.
-fn compared(list: &[u8]) -> Tally {
+fn compared(rt: &impl Print, list: &[u8]) -> io::Result<Tally> {
     let mut t = Tally {
         agree: 0,
         records: 0,
@@ -82,20 +80,17 @@ fn compared(list: &[u8]) -> Tally {
     let mut left = MOST;
     while left > 0 {
         if t.at == list.len() {
-            return t;
+            return Ok(t);
         }
-        t = step(list, t);
+        t = step(rt, list, t)?;
         left -= 1;
     }
-    t
+    Ok(t)
 }
 
-fn main() {
+fn main(rt: HostRuntime) -> io::Result<()> {
     let mut list = [0u8; ROOM];
-    let n = io::read_full(STDIN_FILENO, &mut list);
-    let t = compared(&list[..n]);
-    io::print_decimal(STDOUT_FILENO, t.agree);
-    io::write_all(STDOUT_FILENO, b" of ");
-    io::print_decimal(STDOUT_FILENO, t.records);
-    io::write_all(STDOUT_FILENO, b" agree\n");
+    let n = intake::read_text(&mut rt.stdin(), &mut list)?;
+    let t = compared(&rt, &list[..n])?;
+    println!(rt; "{} of {} agree", t.agree, t.records)
 }

@@ -1,17 +1,24 @@
 // judge [COMMAND] [FILE]: the answer goes to standard output; all else that is told, one line, goes to standard error.
 #![tactic(auto)]
-ghost use Rattle.std.specs.Prelude.{◌≡◌, length};
-ghost use Rattle.io.specs.Counts.{IsPrefixLen};
+ghost use Rattle.std.specs.Prelude.{◌≡◌, ◌≤◌, length};
 
 use arguments::{Asked, Command, Source};
 use desk::Reply;
-use libc::{STDERR_FILENO, STDIN_FILENO, STDOUT_FILENO};
+use std::env::FillError;
+use std::fs::File;
+use std::io;
+use std::io::Read;
+use std::rt::{Env, Files};
+use std::str;
 
 // Room for the longest input, 8,759 numbers of ten digits, almost three times.
 const ROOM: usize = 262144;
 
 // Room for every answer: the lines of 165 items have at most 100 bytes each, a sheet has at most 7,470 bytes, and the coach's lines have 3,000.
 const OUT: usize = 16500;
+
+// Room for a word of the call; no path is longer.
+const WORD: usize = 4096;
 
 // Zeros. Where they are made in a function of their own, no other proof has the list of them before it.
 fn room() -> [u8; ROOM]
@@ -20,45 +27,21 @@ fn room() -> [u8; ROOM]
     [0; ROOM]
 }
 
-// How many bytes were read, and whether no read failed.
-#[derive(Clone, Copy)]
-struct Got {
-    size: usize,
-    whole: bool,
+// "cannot read NAME: why".
+fn cannot_read(err: &impl Print, name: &[u8], why: io::Error) -> io::Result<()> {
+    print!(err; "cannot read ")?;
+    err.write_all(name)?;
+    println!(err; ": {why}")
 }
 
-// Reads until the input ends or the room is full.
-fn read_text(fd: i32, room: &mut [u8]) -> Got
-    ensures { IsPrefixLen result.size room.new }
-{
-    let mut size: usize = 0;
-    while size < room.len() {
-        let got = libc::read(fd, &mut room[size..]);
-        if got < 0 {
-            return Got { size, whole: false };
-        }
-        let more = io::count(got, &room[size..]);
-        if more == 0 {
-            return Got { size, whole: true };
-        }
-        size += more;
-    }
-    Got { size, whole: true }
+fn tell(err: &impl Print, line: &[u8]) -> io::Result<()> {
+    err.write_all(line)
 }
 
-// "cannot read NAME: why", by errno.
-fn cannot_read(name: &[u8]) {
-    io::write_all(STDERR_FILENO, b"cannot read ");
-    os::fail(name);
-}
-
-fn tell(line: &[u8]) {
-    io::write_all(STDERR_FILENO, line);
-}
-
-fn answer(text: &[u8]) {
-    if !io::write_all(STDOUT_FILENO, text) {
-        os::fail(b"cannot write standard output");
+fn answer(out: &impl Print, err: &impl Print, text: &[u8]) -> io::Result<()> {
+    match out.write_all(text) {
+        Ok(()) => Ok(()),
+        Err(why) => println!(err; "cannot write standard output: {why}"),
     }
 }
 
@@ -71,58 +54,114 @@ fn reply_to(command: Command, text: &[u8], out: &mut [u8]) -> Reply {
     }
 }
 
-// Runs a command on what is read from a descriptor; its name is for a failed read.
-fn run(command: Command, fd: i32, name: &[u8]) {
+// Runs a command on what is read; its name is for a failed read.
+fn run<R: Read>(
+    out: &impl Print,
+    err: &impl Print,
+    command: Command,
+    input: &mut R,
+    name: &[u8],
+) -> io::Result<()> {
     let mut text = room();
-    let got = read_text(fd, &mut text);
-    if !got.whole {
-        cannot_read(name);
-        return;
+    let n = match intake::read_text(input, &mut text) {
+        Ok(n) => n,
+        Err(why) => return cannot_read(err, name, why),
+    };
+    if n == ROOM {
+        return tell(err, b"the input has more than 262143 bytes\n");
     }
-    if got.size == ROOM {
-        tell(b"the input has more than 262143 bytes\n");
-        return;
-    }
-    let n = got.size;
-    let mut out = [0u8; OUT];
-    let reply = reply_to(command, &text[..n], &mut out);
+    let mut lines = [0u8; OUT];
+    let reply = reply_to(command, &text[..n], &mut lines);
     match reply {
-        Reply::Answer(m) => answer(replies::front(&out, m)),
-        Reply::Told(m) => tell(replies::front(&out, m)),
+        Reply::Answer(m) => answer(out, err, replies::front(&lines, m)),
+        Reply::Told(m) => tell(err, replies::front(&lines, m)),
     }
 }
 
-fn run_file(command: Command, name: &[u8]) {
-    let fd = os::open_read(name);
-    if fd < 0 {
-        cannot_read(name);
-        return;
+// Opens a file for reading. std's paths are UTF-8.
+fn open<F: Files>(files: &F, name: &[u8]) -> io::Result<F::File> {
+    match str::from_utf8(name) {
+        Ok(path) => File::open(files, path),
+        Err(_) => Err(io::Error::new(
+            io::ErrorKind::InvalidFilename,
+            "its name is not UTF-8",
+        )),
     }
-    run(command, fd, name);
 }
 
-fn help() {
+fn run_file(
+    files: &impl Files,
+    out: &impl Print,
+    err: &impl Print,
+    command: Command,
+    name: &[u8],
+) -> io::Result<()> {
+    match open(files, name) {
+        Ok(mut file) => run(out, err, command, &mut file, name),
+        Err(why) => cannot_read(err, name, why),
+    }
+}
+
+fn help(out: &impl Print, err: &impl Print) -> io::Result<()> {
     answer(
+        out,
+        err,
         b"judge [COMMAND] [FILE]\n\nsheet   judges a situation and prints its sheet; where no command is given, this one\ndisplay judges a situation and prints its sheet for the display, which shows twelve lines under the header\ncoach   tells for each player that does not stand legally which rule it breaks, a line each\nread    reads a sheet and tells what each of its lines says, a line each\nhelp    prints this text\n\nWithout a file, or where it is -, standard input is read. A file that has a command's name is written ./sheet.\n",
-    );
+    )
 }
 
-fn main() {
-    let mut first = io::buffer();
-    let mut second = io::buffer();
-    let count = os::arg_count();
-    let words = if count == 0 { 0 } else { count - 1 };
-    let n = os::arg(1, &mut first);
-    let m = os::arg(2, &mut second);
+// Whether the call has this argument. Argument 0 is the program's name.
+fn has_argument(env: &impl Env, i: usize) -> bool {
+    let mut nothing = [0u8; 0];
+    match env.arg(i, &mut nothing) {
+        Err(FillError::NotPresent) => false,
+        _ => true,
+    }
+}
+
+// How many words the call has after the program's name; 3 also where there are more.
+fn count_words(env: &impl Env) -> usize
+    ensures { result ≤ 3 }
+{
+    let mut n: usize = 0;
+    while n < 3 {
+        if !has_argument(env, n + 1) {
+            return n;
+        }
+        n += 1;
+    }
+    n
+}
+
+// Puts a word at the front of the room, and answers its length; 0 where it is not there, or has no room.
+fn read_word(env: &impl Env, i: usize, room: &mut [u8]) -> usize
+    ensures { result ≤ length room.new }
+{
+    match env.arg(i, room) {
+        Ok(n) => n,
+        Err(_) => 0,
+    }
+}
+
+fn main(rt: HostRuntime) -> io::Result<()> {
+    let out = rt.stdout();
+    let err = rt.stderr();
+    let mut first = [0u8; WORD];
+    let mut second = [0u8; WORD];
+    let words = count_words(&rt);
+    let n = read_word(&rt, 1, &mut first);
+    let m = read_word(&rt, 2, &mut second);
     let asked = arguments::asked_by(words, &first[..n], &second[..m]);
     match asked {
-        Asked::Unclear => tell(b"unclear words: judge help tells how judge is called\n"),
+        Asked::Unclear => tell(&err, b"unclear words: judge help tells how judge is called\n"),
         Asked::Run(command, source) => match command {
-            Command::Help => help(),
+            Command::Help => help(&out, &err),
             _ => match source {
-                Source::StandardInput => run(command, STDIN_FILENO, b"standard input"),
-                Source::FirstWord => run_file(command, &first[..n]),
-                Source::SecondWord => run_file(command, &second[..m]),
+                Source::StandardInput => {
+                    run(&out, &err, command, &mut rt.stdin(), b"standard input")
+                }
+                Source::FirstWord => run_file(&rt, &out, &err, command, &first[..n]),
+                Source::SecondWord => run_file(&rt, &out, &err, command, &second[..m]),
             },
         },
     }

@@ -7,11 +7,14 @@ mod lists;
 ghost use Rattle.std.specs.Prelude.{◌≤◌};
 
 use floats::{bits, from_bits};
-use libc::{STDIN_FILENO, STDOUT_FILENO};
 use numbers::Reading;
+use std::io;
 
 // The numbers of a vector: its function's, six operands and what is expected.
 const WIDTH: usize = 8;
+
+// Room for the text of the vectors.
+const ROOM: usize = 65536;
 
 // Room for the numbers of 1,536 vectors.
 const MOST: usize = 12288;
@@ -68,24 +71,18 @@ fn value(vector: &[u32]) -> u32 {
 }
 
 // Whether a vector's function gives what is expected. Where it does not, that is written, with the line of the vector.
-fn agrees(vector: &[u32], line: usize) -> bool {
+fn agrees(rt: &impl Print, vector: &[u32], line: usize) -> io::Result<bool> {
     let got = value(vector);
     let want = at(vector, 7);
     if got == want {
-        return true;
+        return Ok(true);
     }
-    io::write_all(STDOUT_FILENO, b"line ");
-    io::print_decimal(STDOUT_FILENO, line as u64);
-    io::write_all(STDOUT_FILENO, b" gives ");
-    io::print_decimal(STDOUT_FILENO, got as u64);
-    io::write_all(STDOUT_FILENO, b", expected ");
-    io::print_decimal(STDOUT_FILENO, want as u64);
-    io::write_all(STDOUT_FILENO, b"\n");
-    false
+    println!(rt; "line {line} gives {got}, expected {want}")?;
+    Ok(false)
 }
 
 // How many of so many vectors agree.
-fn agreeing(vectors: &[u32; MOST], n: usize) -> usize
+fn agreeing(rt: &impl Print, vectors: &[u32; MOST], n: usize) -> io::Result<usize>
     requires { n ≤ 1536 }
 {
     let all = &vectors[..];
@@ -93,12 +90,12 @@ fn agreeing(vectors: &[u32; MOST], n: usize) -> usize
     let mut i = 0;
     while i < n {
         let from = i * WIDTH;
-        if agrees(&all[from..from + WIDTH], i + 1) {
+        if agrees(rt, &all[from..from + WIDTH], i + 1)? {
             agree += 1;
         }
         i += 1;
     }
-    agree
+    Ok(agree)
 }
 
 // How many vectors were read and have room; 0 where something is no number.
@@ -112,15 +109,12 @@ fn count_of(reading: Reading) -> usize
     }
 }
 
-fn main() {
-    let mut text = io::large_buffer();
-    let size = io::read_full(STDIN_FILENO, &mut text);
+fn main(rt: HostRuntime) -> io::Result<()> {
+    let mut text = [0u8; ROOM];
+    let size = intake::read_text(&mut rt.stdin(), &mut text)?;
     let mut vectors = [0u32; MOST];
     let reading = numbers::read_numbers(&text[..size], &mut vectors);
     let n = count_of(reading);
-    let agree = agreeing(&vectors, n);
-    io::print_decimal(STDOUT_FILENO, agree as u64);
-    io::write_all(STDOUT_FILENO, b" of ");
-    io::print_decimal(STDOUT_FILENO, n as u64);
-    io::write_all(STDOUT_FILENO, b" agree\n");
+    let agree = agreeing(&rt, &vectors, n)?;
+    println!(rt; "{agree} of {n} agree")
 }

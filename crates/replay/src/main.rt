@@ -8,8 +8,9 @@ mod lists;
 mod reading;
 mod sheets;
 
-use libc::STDOUT_FILENO;
 use reading::Outcome;
+use std::io;
+use std::io::Read;
 use std::num::wrapping_add_u64;
 
 // Room for the longest record: 45 bytes, 8,759 numbers of ten digits with a blank after each, and a sheet of 7,470 bytes.
@@ -27,48 +28,46 @@ struct Tally {
 }
 
 // Prints the number of a record that does not agree, and why.
-fn complain(record: u64, why: &[u8]) {
-    io::write_all(STDOUT_FILENO, b"record ");
-    io::print_decimal(STDOUT_FILENO, record);
-    io::write_all(STDOUT_FILENO, why);
+fn complain(rt: &impl Print, record: u64, why: &str) -> io::Result<()> {
+    println!(rt; "record {record} {why}")
 }
 
 // Counts a record. Where one is broken, it is not known where the next begins.
-fn counted(t: Tally, outcome: Outcome) -> Tally {
+fn counted(rt: &impl Print, t: Tally, outcome: Outcome) -> io::Result<Tally> {
     let agree = t.agree;
     let records = wrapping_add_u64(t.records, 1);
     match outcome {
-        Outcome::NoRecord => Tally {
+        Outcome::NoRecord => Ok(Tally {
             agree,
             records: t.records,
             open: false,
-        },
-        Outcome::Agrees => Tally {
+        }),
+        Outcome::Agrees => Ok(Tally {
             agree: wrapping_add_u64(agree, 1),
             records,
             open: true,
-        },
+        }),
         Outcome::Differs => {
-            complain(records, b" differs\n");
-            Tally {
+            complain(rt, records, "differs")?;
+            Ok(Tally {
                 agree,
                 records,
                 open: true,
-            }
+            })
         }
         Outcome::Broken => {
-            complain(records, b" is broken\n");
-            Tally {
+            complain(rt, records, "is broken")?;
+            Ok(Tally {
                 agree,
                 records,
                 open: false,
-            }
+            })
         }
     }
 }
 
 // All records, up to the end of the input or the first broken one. Each is read into the buffer.
-fn replay(buffer: &mut [u8]) -> Tally {
+fn replay<R: Read>(rt: &impl Print, input: &mut R, buffer: &mut [u8]) -> io::Result<Tally> {
     let mut t = Tally {
         agree: 0,
         records: 0,
@@ -77,23 +76,20 @@ fn replay(buffer: &mut [u8]) -> Tally {
     let mut left = MOST;
     while left > 0 {
         if !t.open {
-            return t;
+            return Ok(t);
         }
-        let outcome = reading::next(buffer);
-        t = counted(t, outcome);
+        let outcome = reading::next(input, buffer)?;
+        t = counted(rt, t, outcome)?;
         left -= 1;
     }
-    t
+    Ok(t)
 }
 
-fn main() {
+fn main(rt: HostRuntime) -> io::Result<()> {
     let mut buffer = [0u8; ROOM];
-    let t = replay(&mut buffer);
+    let t = replay(&rt, &mut rt.stdin(), &mut buffer)?;
     if t.open {
-        io::write_all(STDOUT_FILENO, b"there are more records than are read\n");
+        println!(rt; "there are more records than are read")?;
     }
-    io::print_decimal(STDOUT_FILENO, t.agree);
-    io::write_all(STDOUT_FILENO, b" of ");
-    io::print_decimal(STDOUT_FILENO, t.records);
-    io::write_all(STDOUT_FILENO, b" agree\n");
+    println!(rt; "{} of {} agree", t.agree, t.records)
 }

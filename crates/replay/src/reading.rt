@@ -2,8 +2,9 @@
 ghost use Rattle.std.specs.Prelude.{◌≤◌, length};
 
 use super::{lists, sheets};
-use libc::STDIN_FILENO;
 use records::{Found, Record};
+use std::io;
+use std::io::Read;
 
 // What becomes of a record: there is none, the answer is the same or another, or it is not in the form of a record.
 #[derive(Clone, Copy)]
@@ -28,39 +29,39 @@ fn compared(kind: u32, lent: usize, input: &[u8], answer: &[u8]) -> Outcome {
 }
 
 // The rest of a record after its head, read to its place in the buffer.
-fn rest(buffer: &mut [u8], r: Record) -> Outcome
+fn rest<R: Read>(input: &mut R, buffer: &mut [u8], r: Record) -> io::Result<Outcome>
     requires { (r.input ≤ r.answer) × (r.answer ≤ r.next) × (r.next ≤ length buffer.old) }
 {
-    let input = r.input;
+    let from = r.input;
     let answer = r.answer;
     let next = r.next;
-    let n = io::read_full(STDIN_FILENO, &mut buffer[input..next]);
-    if n < next - input {
-        return Outcome::Broken;
+    let n = intake::read_text(input, &mut buffer[from..next])?;
+    if n < next - from {
+        return Ok(Outcome::Broken);
     }
-    compared(
+    Ok(compared(
         r.kind,
         r.lent,
-        &buffer[input..answer],
+        &buffer[from..answer],
         &buffer[answer..next],
-    )
+    ))
 }
 
-// The next record of standard input. Its head tells where in the buffer the rest goes.
-pub(crate) fn next(buffer: &mut [u8]) -> Outcome {
+// The next record of the input. Its head tells where in the buffer the rest goes.
+pub(crate) fn next<R: Read>(input: &mut R, buffer: &mut [u8]) -> io::Result<Outcome> {
     if buffer.len() < 45 {
-        return Outcome::Broken;
+        return Ok(Outcome::Broken);
     }
-    let n = io::read_full(STDIN_FILENO, &mut buffer[..45]);
+    let n = intake::read_text(input, &mut buffer[..45])?;
     if n == 0 {
-        return Outcome::NoRecord;
+        return Ok(Outcome::NoRecord);
     }
     if n < 45 {
-        return Outcome::Broken;
+        return Ok(Outcome::Broken);
     }
     let found = records::record_at(buffer, 0);
     match found {
-        Found::Whole(r) => rest(buffer, r),
-        Found::Broken => Outcome::Broken,
+        Found::Whole(r) => rest(input, buffer, r),
+        Found::Broken => Ok(Outcome::Broken),
     }
 }
