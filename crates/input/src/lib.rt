@@ -94,6 +94,7 @@ fn laid_out(numbers: &[u32], n: usize) -> Input
 }
 
 // Reads the text's numbers into the lent array, as many as it has room for, and answers for them all. Of a text with a fault that is no number, those before it are stored.
+#[tactic(auto, unfolding(crate::specs::Input::input_of))]
 pub fn read_input(text: &[u8], numbers: &mut [u32; NUMBERS]) -> Input
     ensures value { result ≡ Spec.input_of text.now }
     ensures numbers_after { numbers.new ≡ stored (numbers_of text.now) numbers.old }

@@ -18,6 +18,7 @@ pub const LONGEST: usize = 74;
 struct Part(usize, usize);
 
 // Of a side's word, with a blank after it.
+#[tactic(auto, unfolding(crate::specs::Parts::all_words, crate::specs::Sentences::side_word, crate::specs::Sentences::verdict_words, crate::specs::Sentences::condition_words))]
 fn side_part(side: Side) -> Part
     ensures { Stands result (Parts.side_piece side) }
 {
@@ -28,6 +29,7 @@ fn side_part(side: Side) -> Part
 }
 
 // Of a verdict's words, with a blank before and a colon and a blank after them.
+#[tactic(auto, unfolding(crate::specs::Parts::all_words, crate::specs::Sentences::side_word, crate::specs::Sentences::verdict_words, crate::specs::Sentences::condition_words))]
 fn verdict_part(verdict: Positioning) -> Part
     ensures { Stands result (Parts.verdict_piece verdict) }
 {
@@ -40,6 +42,7 @@ fn verdict_part(verdict: Positioning) -> Part
 }
 
 // Of a condition's words.
+#[tactic(auto, unfolding(crate::specs::Parts::all_words, crate::specs::Sentences::side_word, crate::specs::Sentences::verdict_words, crate::specs::Sentences::condition_words))]
 fn condition_part(condition: Condition) -> Part
     ensures { Stands result (Spec.condition_words condition) }
 {
@@ -87,6 +90,7 @@ fn put(out: &mut [u8], at: usize, words: &[u8], from: usize, size: usize) -> usi
 }
 
 // The same for a piece of a line. The words of all lines stand here, one after the other, with the blanks and colons beside them.
+#[tactic(auto, unfolding(crate::specs::Parts::all_words, crate::specs::Sentences::side_word, crate::specs::Sentences::verdict_words, crate::specs::Sentences::condition_words))]
 fn put_words(out: &mut [u8], at: usize, part: Part) -> usize
     requires { (part.0 + part.1 ≤ 408) × (at + part.1 ≤ length out.old) }
     ensures value { result ≡ at + part.1 }
