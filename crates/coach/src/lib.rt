@@ -14,6 +14,7 @@ use sheet::SheetAnswer;
 const ROOM: usize = 3000;
 
 // The conditions on a side's players.
+#[tactic(auto, unfolding(crate::specs::Coach::side_conditions, seen::specs::Seen::side_seen))]
 fn side_conditions(s: Situation, side: Side) -> [PlayerCondition; 20]
     ensures { result ≡ Spec.side_conditions s side }
 {
@@ -56,6 +57,7 @@ fn with_number(refusal: u8, number: u32) -> u8
 
 // Writes the line on one player of a situation, of which the first refusal is handed in, at the front of the lent text; the bytes after it are kept. Answers the line's length, 0 for
 // a player that stands legally. A refusal, that or 4 of the number, and then 8, keeps every byte.
+#[tactic(auto, unfolding(crate::specs::Coach::sentence_of))]
 pub fn write_sentence(
     own: u8,
     s: Situation,
@@ -111,6 +113,7 @@ fn ended_sentence(
 }
 
 // The same for a side's players, in the order of their numbers.
+#[tactic(auto, unfolding(crate::specs::Coach::lines_for))]
 fn side_sentences(
     side: Side,
     conditions: [PlayerCondition; 20],

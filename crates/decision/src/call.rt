@@ -76,6 +76,7 @@ pub fn decision_of<'a>(s: Situation, xs: &'a [f32], ys: &'a [f32]) -> Decision
 }
 
 // The decision beside a refusal: of each side every verdict Legal, no lists and no references.
+#[tactic(auto, unfolding(crate::specs::Decision::empty_side, crate::specs::Decision::empty_decision))]
 pub fn empty_decision() -> Decision
     ensures { result ≡ Spec.empty_decision }
 {

@@ -37,6 +37,7 @@ pub fn team_verdicts(
 }
 
 // The numbers of a team's players that leave the field, each by its own allowance, ascending.
+#[tactic(auto, unfolding(crate::specs::Decision::leaving_players))]
 pub fn leaving_players(team: Team, field: FieldDimensions) -> PlayerList
     ensures { result ≡ Spec.leaving_players team field }
 {
@@ -52,6 +53,7 @@ pub fn leaving_players(team: Team, field: FieldDimensions) -> PlayerList
 }
 
 // A list of no player.
+#[tactic(auto, unfolding(crate::specs::Decision::empty_list, game::specs::Players::listed, lists::specs::Put::fronted))]
 pub fn empty_list() -> PlayerList
     ensures { result ≡ Spec.empty_list }
 {
@@ -77,6 +79,7 @@ pub fn team_excess(game: Game, team: Team, margins: [PlayerMargins; 20]) -> Play
 }
 
 // The kicking player, none without a kicking side.
+#[tactic(auto, unfolding(crate::specs::Decision::kicking_player))]
 pub fn kicking_player(
     game: Game,
     home: Team,
@@ -106,6 +109,7 @@ pub fn kicking_player(
 }
 
 // What is called for the ball, where so many players of Home and of Away are on the field.
+#[tactic(auto, unfolding(crate::specs::Decision::ball_called_among))]
 pub fn ball_judgment(s: Situation, home_players: usize, away_players: usize) -> BallJudgment
     ensures { result ≡ Spec.ball_called_among s home_players away_players }
 {
@@ -149,6 +153,7 @@ fn goalkeeper_place(s: Situation, side: Side) -> Placement
 }
 
 // The place wished for, or none.
+#[tactic(auto, unfolding(crate::specs::Decision::wished_place))]
 pub fn wished_place<'a>(s: Situation, xs: &'a [f32], ys: &'a [f32]) -> Placement
     ensures { result ≡ Spec.wished_place s xs.now ys.now }
 {

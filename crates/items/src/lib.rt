@@ -54,6 +54,7 @@ fn is_placed(value: u32) -> bool
 }
 
 // Whether the numbers of a line are those of an item.
+#[tactic(auto, unfolding(crate::specs::Items::is_item))]
 pub fn is_item(row: Row) -> bool
     ensures { result ≡ Spec.is_item row }
 {
@@ -117,6 +118,7 @@ fn who_of(side: u32, number: u32) -> Who
 }
 
 // The item that a line is.
+#[tactic(auto, unfolding(crate::specs::Items::item_of))]
 pub fn item_of(row: Row) -> Item
     ensures { result ≡ Spec.item_of row }
 {

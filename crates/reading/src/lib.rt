@@ -45,6 +45,7 @@ enum Walk {
 }
 
 // The number of the block that a line belongs to: a kind, but for kind 2 a side's, and 7, 8 and 9 are one.
+#[tactic(auto, unfolding(crate::specs::Walk::block))]
 fn block(row: Row) -> u32
     ensures { result ≡ Steps.block row }
 {
@@ -61,6 +62,7 @@ fn block(row: Row) -> u32
 }
 
 // Whether a line may begin its block.
+#[tactic(auto, unfolding(crate::specs::Walk::begins))]
 fn begins(row: Row) -> bool
     ensures { result ≡ Steps.begins row }
 {
@@ -100,6 +102,7 @@ fn same_who(last: Row, row: Row) -> bool
 }
 
 // Whether a line may follow the last one in its block. The flags are those of the players that were named in it.
+#[tactic(auto, unfolding(crate::specs::Walk::continues))]
 fn continues(last: Row, seen: u32, row: Row) -> bool
     requires { row.number ≤ 20 }
     ensures { result ≡ Steps.continues last seen row }
@@ -115,6 +118,7 @@ fn continues(last: Row, seen: u32, row: Row) -> bool
 }
 
 // Whether a line may follow the last one.
+#[tactic(auto, unfolding(crate::specs::Walk::linked))]
 fn linked(last: Row, seen: u32, row: Row) -> bool
     requires { row.number ≤ 20 }
     ensures { result ≡ Steps.linked last seen row }
@@ -126,6 +130,7 @@ fn linked(last: Row, seen: u32, row: Row) -> bool
 }
 
 // Whether a line has the numbers of an item, comes in order, and may follow the last one.
+#[tactic(auto, unfolding(crate::specs::Walk::fits_after))]
 fn fits_after(last: Row, seen: u32, row: Row) -> bool
     ensures { result ≡ Steps.fits_after last seen row }
 {
@@ -136,6 +141,7 @@ fn fits_after(last: Row, seen: u32, row: Row) -> bool
 }
 
 // The flags after a line: in kind 2 those of its side's players so far, with its own.
+#[tactic(auto, unfolding(crate::specs::Walk::seen_after))]
 fn seen_after(last: Row, seen: u32, row: Row) -> u32
     requires { row.number ≤ 20 }
     ensures { result ≡ Steps.seen_after last seen row }

@@ -140,6 +140,7 @@ fn put_place(place: &mut [u32], side: u32, number: u32, x: f32, y: f32, z: f32)
 }
 
 // Writes a place as it was decided, the sign of a zero kept. Answers how many places there are, 1 or 0.
+#[tactic(auto, unfolding(lists::specs::Put::fronted))]
 fn write_place(p: Placement, place: &mut [u32]) -> i64
     requires { 5 ≤ length place.old }
     ensures value { result ≡ pos (Spec.place_count p) }
@@ -195,6 +196,7 @@ pub extern "C" fn referee_place<'a>(
 
 // Whether the bytes are a sheet: how many lines follow its header, or a refusal. No floats are computed with.
 #[unsafe(no_mangle)]
+#[tactic(auto, unfolding(crate::specs::Entries::read_number))]
 pub extern "C" fn referee_read_sheet(text: &[u8]) -> i64
     ensures { result ≡ Spec.read_number text.now }
 {
@@ -206,6 +208,7 @@ pub extern "C" fn referee_read_sheet(text: &[u8]) -> i64
 }
 
 // Stores the numbers of a line in the first four of the lent words, where there is one.
+#[tactic(auto, unfolding(lists::specs::Put::fronted))]
 fn write_item(found: LineRead, item: &mut [u32]) -> i64
     requires { 4 ≤ length item.old }
     ensures value { result ≡ Spec.line_number found }
