@@ -1,4 +1,3 @@
-pub mod Others
 pub mod Signs
 pub mod Turned
 pub mod Bounds

@@ -1,5 +1,6 @@
 // Where the ball and the players are placed.
 #![tactic(auto)]
+
 ghost use Rattle.std.specs.Prelude.{◌≡◌};
 ghost use Rattle.places.specs.Places as Spec;
 
@@ -35,6 +36,7 @@ fn free_kick_place(
 
 // The ball's place in a set play that starts during Playing: the corner of the goal area or of the field on the ball's side, or the touchline where the ball
 // left the field. The sizes of the field reach to the outer edges of lines, and balls are placed on their middles.
+#[tactic(auto, unfolding(crate::specs::Places::ball_at_restart))]
 pub fn place_ball_at_restart(game: Game, field: FieldDimensions, ball: Ball) -> Placement
     ensures { result ≡ Spec.ball_at_restart game field ball }
 {
@@ -87,6 +89,7 @@ fn mark_or(
 }
 
 // The ball's place when Set is entered.
+#[tactic(auto, unfolding(crate::specs::Places::ball_in_set))]
 pub fn place_ball_in_set(game: Game, field: FieldDimensions) -> Placement
     ensures { result ≡ Spec.ball_in_set game field }
 {
@@ -140,6 +143,7 @@ fn shot_place(
 }
 
 // The place of a player that has been selected for a penalty shot.
+#[tactic(auto, unfolding(crate::specs::Places::penalty_shot_place))]
 pub fn place_for_penalty_shot(
     game: Game,
     field: FieldDimensions,
@@ -190,6 +194,7 @@ fn keeper_place(
 }
 
 // The place of a side's goalkeeper when Set is entered for a penalty kick.
+#[tactic(auto, unfolding(crate::specs::Places::penalty_goalkeeper_place))]
 pub fn place_penalty_goalkeeper(
     game: Game,
     field: FieldDimensions,
