@@ -1,5 +1,6 @@
 // Which player of the kicking team takes a kick-off or a penalty kick.
 #![tactic(auto)]
+
 ghost use Rattle.std.specs.Prelude.{◌≡◌, ◌<◌};
 ghost use Rattle.kicker.specs.Kicker as Spec;
 ghost use Rattle.kicker.specs.KickerKeys as Kicking;
@@ -19,6 +20,7 @@ pub enum Distance {
 
 // The distance of a player by the set play. At a kick-off: over the halfway line, in the centre circle, off the mark. At a penalty kick: in
 // the opponents' penalty area or near the mark, off the mark.
+#[tactic(auto, unfolding(crate::specs::Kicker::kick_off_distance, crate::specs::Kicker::penalty_kick_distance))]
 fn kicker_distance(
     set_play: SetPlay,
     field: FieldDimensions,
