@@ -1,5 +1,6 @@
 // Who is named when a team has more than three players in its own goal area.
 #![tactic(auto)]
+
 ghost use Rattle.std.specs.Prelude.{◌≡◌, ℕ, ◌<◌, get_or};
 ghost use Rattle.lists.specs.Table.{table};
 ghost use Rattle.keys.specs.Keys.{keys_below, no_key};
