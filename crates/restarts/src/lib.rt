@@ -65,6 +65,7 @@ fn kick_distance(r: Restart, ball: Ball) -> f32
 }
 
 // After the first touch by the side that takes the restart: this is the kick.
+#[tactic(auto, unfolding(crate::specs::Restarts::kick_taken))]
 fn kick_taken(r: Restart, number: u8, field: FieldDimensions, ball: Ball) -> Restart
     ensures { result ≡ Spec.kick_taken r number field ball }
 {
@@ -84,6 +85,7 @@ fn kick_taken(r: Restart, number: u8, field: FieldDimensions, ball: Ball) -> Res
 }
 
 // After another touch by the kicker, whose side has so many players on the field.
+#[tactic(auto, unfolding(crate::specs::Restarts::touched_again))]
 fn touched_again(r: Restart, field: FieldDimensions, ball: Ball, players: usize) -> Restart
     ensures { result ≡ Spec.touched_again r field ball players }
 {
@@ -105,6 +107,7 @@ fn touched_again(r: Restart, field: FieldDimensions, ball: Ball, players: usize)
 }
 
 // After a touch by anybody else.
+#[tactic(auto, unfolding(crate::specs::Restarts::touched_by_other))]
 fn touched_by_other(r: Restart) -> Restart
     ensures { result ≡ Spec.touched_by_other r }
 {
@@ -122,6 +125,7 @@ fn touched_by_other(r: Restart) -> Restart
 }
 
 // After a touch by the player with this number, of the side that takes the restart or not.
+#[tactic(auto, unfolding(crate::specs::Restarts::after_touch))]
 fn after_touch(
     r: Restart,
     own: bool,
@@ -150,6 +154,7 @@ fn after_touch(
 }
 
 // Whether the touch is the kicker's second, before anybody else's and after the ball has clearly moved.
+#[tactic(auto, unfolding(crate::specs::Restarts::is_second_touch))]
 fn is_second_touch(r: Restart, own: bool, number: u8) -> bool
     ensures { result ≡ Spec.is_second_touch r own number }
 {
@@ -202,6 +207,7 @@ fn is_double_touch(game: Game, set_play: SetPlay, players: usize) -> bool
 }
 
 // After a second touch, where `next` is the record after it: a penalty shot ends, a double touch lifts the restart.
+#[tactic(auto, unfolding(crate::specs::Restarts::after_second_touch))]
 fn after_second_touch(game: Game, next: Restart, side: Side, players: usize) -> TouchedRestart
     ensures { result ≡ Spec.after_second_touch game next side players }
 {
@@ -225,6 +231,7 @@ fn after_second_touch(game: Game, next: Restart, side: Side, players: usize) -> 
 }
 
 // A new touch of the ball, as ball_contact: by the player of a side with a number, where the ball was in the last frame, and so many players of the side were on the field there.
+#[tactic(auto, unfolding(crate::specs::Restarts::touched_restart))]
 pub fn touched(
     game: Game,
     field: FieldDimensions,
@@ -360,6 +367,7 @@ fn after_ended(ended: bool, game: Game, restart: MaybeRestart) -> MaybeRestart
 }
 
 // What the changes of the game since the last frame make of the restart, as observe.
+#[tactic(auto, unfolding(crate::specs::Restarts::observed_restart))]
 pub fn observed(
     game: Game,
     begun: bool,
@@ -385,6 +393,7 @@ pub fn observed(
 }
 
 // What the way of the ball since the kick makes of the restart, as track_ball.
+#[tactic(auto, unfolding(crate::specs::Restarts::tracked_restart))]
 pub fn tracked(restart: MaybeRestart, ball: Ball) -> MaybeRestart
     ensures { result ≡ Spec.tracked_restart restart ball }
 {
