@@ -1,13 +1,12 @@
 -- What is known of an input with which something is wrong: the numbers before its fault are there, and so is the number at it where that is told. Assumes nothing.
-use mathlib.Core.Path.{◌≡◌, refl, ap, ◌∙◌}
+use mathlib.Core.Path.{◌≡◌, refl}
 use mathlib.Core.Bool.{Bool, true, false, cond}
 use mathlib.Core.List.{List}
 use Prim.Native.Nat.{ℕ, ◌≤◌, ◌<◌, min}
 use native.Mathlib.Omega.{arith}
-use borrow.Author.Tests.{ltb-true, ltb-false, leb-true, leb-false}
+use borrow.Author.Tests.{ltb-true, ltb-false, leb-false}
 use lib.Dec.{leb, ltb}
 use lib.ListN.{length, take, get_or}
-use Rattle.lists.proofs.Bools.{by_test}
 use Rattle.columns.specs.Layout.{word_count}
 use Rattle.columns.specs.Columns.{words_within}
 use Rattle.numbers.specs.declared.Reading.{Reading}

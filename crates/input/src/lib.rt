@@ -1,5 +1,6 @@
 // A situation from a text of decimal numbers: its words, then the number of earlier x and their patterns, then the number of earlier y and theirs.
 #![tactic(auto)]
+
 ghost use Rattle.std.specs.Prelude.{◌≡◌, min, length, take};
 ghost use Rattle.columns.specs.Layout.{word_count};
 ghost use Rattle.columns.specs.Columns.{words_within};

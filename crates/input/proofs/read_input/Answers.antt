@@ -1,0 +1,8 @@
+-- Where the text has no fault, the answer for the stored numbers is that for the numbers themselves.
+use Rattle.std.proofs.Common.{rules, sym}
+use Rattle.input.proofs.Stored.{input_of_read}
+use Rattle.input.proofs.read_input.Goals as goal
+
+pub returns-in-Read-clause-value : goal.returns-in-Read-clause-value
+returns-in-Read-clause-value c =
+    input_of_read c.args.text.now c.args.numbers.now _ c.in-Read.n _ (search rules) (sym c.in-Read.ensures.value) c.read_numbers-reading.ensures.numbers_after c.laid_out.ensures
