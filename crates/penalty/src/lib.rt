@@ -1,5 +1,6 @@
 // The place of a penalized player, as place_for_penalty.
 #![tactic(auto)]
+
 ghost use Rattle.std.specs.Prelude.{◌≡◌};
 ghost use Rattle.lists.specs.Fold.{fold_to};
 ghost use Rattle.clearance.specs.Clearance.{occupied};
