@@ -1,5 +1,6 @@
 // The sheet: a decision as lines of text.
 #![tactic(auto)]
+
 mod blocks;
 mod text;
 
