@@ -1,4 +1,3 @@
-mod ByKind
 pub mod View
 pub mod Placed
 pub mod Back

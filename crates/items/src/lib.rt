@@ -1,5 +1,6 @@
 // The items of a sheet: what each of its lines says.
 #![tactic(auto)]
+
 ghost use Rattle.std.specs.Prelude.{◌≡◌};
 ghost use Rattle.items.specs.Items as Spec;
 
