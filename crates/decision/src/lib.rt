@@ -1,5 +1,6 @@
 // The call: one situation, one decision, or the number of a refusal.
 #![tactic(auto)]
+
 mod call;
 mod judges;
 
