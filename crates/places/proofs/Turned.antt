@@ -138,9 +138,9 @@ module _ (a b : Bool) (H : Float → Float → Type 0) (kept : (theta : Float) �
   checked_changed : (number : ℕ) (s : Float) (unpenalized : Bool) (p : PlayerPose) → T (fits binary32 p.y) → ChangedPlace a b H (checked_keeper_place f side number s unpenalized p) (checked_keeper_place f side number (signed a s) unpenalized (changed_pose a b p))
   checked_changed number s unpenalized p n = rw (on_line_changed s p) (chosen a b H (unpenalized && not (is_on_own_goal_line (team_x s p) p f)) (keeper_changed number s p n) none)
 
-  seen_keeper_changed : (pose : SeenPose) (sides : SideMapping) (number : ℕ) (penalty : Penalty) → FitsY pose → ChangedPlace a b H (seen_keeper_place pose sides f side number penalty) (seen_keeper_place (changed_seen a b pose) (changed_ends a sides) f side number penalty)
-  seen_keeper_changed Absent sides number penalty n = none
-  seen_keeper_changed (Present p) sides number penalty n = rw (sign_changed a side sides) (checked_changed number (side_to_sign side sides) (is_unpenalized penalty) p n)
+  seen_keeper_changed : (pose : SeenPose) (sides : SideMapping) (number : ℕ) (status : Penalty) → FitsY pose → ChangedPlace a b H (seen_keeper_place pose sides f side number status) (seen_keeper_place (changed_seen a b pose) (changed_ends a sides) f side number status)
+  seen_keeper_changed Absent sides number status n = none
+  seen_keeper_changed (Present p) sides number status n = rw (sign_changed a side sides) (checked_changed number (side_to_sign side sides) (is_unpenalized status) p n)
 
   maybe_keeper_changed : (goalkeeper : MaybeNumber) (sides : SideMapping) (t : Team) → ((number : ℕ) → FitsY (player_numbered t number).pose) → ChangedPlace a b H (maybe_keeper_place goalkeeper sides f side t) (maybe_keeper_place goalkeeper (changed_ends a sides) f side (changed_team a b t))
   maybe_keeper_changed NoNumber sides t n = none

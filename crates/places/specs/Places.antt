@@ -156,8 +156,8 @@ checked_keeper_place f side number sign unpenalized p = cond (unpenalized && not
 
 -- none for an absent one
 abbrev pub seen_keeper_place : SeenPose → SideMapping → FieldDimensions → Side → ℕ → Penalty → Placement
-seen_keeper_place Absent sides f side number penalty = NoPlace
-seen_keeper_place (Present p) sides f side number penalty = checked_keeper_place f side number (side_to_sign side sides) (is_unpenalized penalty) p
+seen_keeper_place Absent sides f side number status = NoPlace
+seen_keeper_place (Present p) sides f side number status = checked_keeper_place f side number (side_to_sign side sides) (is_unpenalized status) p
 
 -- the place of the player with this number
 abbrev pub numbered_keeper_place : ℕ → SideMapping → FieldDimensions → Side → Team → Placement
