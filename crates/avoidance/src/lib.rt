@@ -1,5 +1,6 @@
 // The avoidance region of a free kick: when it is in effect, who is in it, and by which test.
 #![tactic(auto)]
+
 ghost use Rattle.std.specs.Prelude.{◌≡◌};
 ghost use Rattle.avoidance.specs.Avoidance as Spec;
 

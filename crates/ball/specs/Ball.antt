@@ -55,7 +55,7 @@ judge_restart_goal r scoring players =
 
 -- a goal for a side, where the Bool tells whether invalid goals are judged at all
 abbrev pub judge_goal : Bool → MaybeRestart → Side → ℕ → GoalJudgment
-judge_goal false restart scoring players = ValidGoal
+judge_goal false r scoring players = ValidGoal
 judge_goal true NoRestart scoring players = ValidGoal
 judge_goal true (InEffect r) scoring players = judge_restart_goal r scoring players
 
@@ -110,8 +110,8 @@ judge_shot kicking sign f b over =
 
 -- none without a kicking side; a shot is over when the ball has rested after it was taken
 abbrev pub judge_shootout : MaybeSide → SideMapping → FieldDimensions → Ball → MaybeRestart → Bool → BallJudgment
-judge_shootout NoSide sides f b restart rested = NoJudgment
-judge_shootout (Of kicking) sides f b restart rested = judge_shot kicking (side_to_sign kicking sides) f b (shot_taken restart && rested)
+judge_shootout NoSide sides f b r rested = NoJudgment
+judge_shootout (Of kicking) sides f b r rested = judge_shot kicking (side_to_sign kicking sides) f b (shot_taken r && rested)
 
 -- ---- in play
 -- the players of a side on the field

@@ -1,5 +1,6 @@
 // The call: refuses a situation, or decides on it and writes the sheet, or the coach's lines.
 #![tactic(auto)]
+
 ghost use Rattle.std.specs.Prelude.{◌≡◌, length};
 ghost use Rattle.sheet.specs.Rows.{rows_of};
 ghost use Rattle.coach.specs.Coach.{sentence_answer, sentence_after, sentences_answer, sentences_after};

@@ -1,5 +1,6 @@
 // Document 01's case A, built in: prints its sheet.
 #![tactic(auto)]
+
 use call::SheetFor;
 use game::{
     Ball, FieldDimensions, Game, MaybeNumber, MaybeRestart, MaybeSide, Penalty, Phase, Player,

@@ -1,6 +1,7 @@
 // Compares document 01's cases, the coach's lines, inputs that are no situation, and texts that may be sheets, with what the code gives. The list of standard input has the form of the crate `records`, and
 // README.md says what its records are. Writes a line for each record that does not agree, and last how many agree of how many.
 #![tactic(auto)]
+
 mod sheets;
 
 ghost use Rattle.std.specs.Prelude.{◌≤◌, length};

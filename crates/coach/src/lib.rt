@@ -1,5 +1,6 @@
 // The coach's calls: the line on one player, or those on all players that do not stand legally.
 #![tactic(auto)]
+
 ghost use Rattle.std.specs.Prelude.{◌≡◌, ◌+◌, ◌≤◌, length};
 ghost use Rattle.lists.specs.Put.{fronted_into};
 ghost use Rattle.lines.specs.Over.{over};

@@ -26,8 +26,8 @@ verdict_of InAreaOfBall = InAvoidanceRegion
 
 -- the condition where the test holds, otherwise what the tests after it tell
 abbrev pub first_of : Bool → Condition → Condition → Condition
-first_of true condition otherwise = condition
-first_of false condition otherwise = otherwise
+first_of true told otherwise = told
+first_of false told otherwise = otherwise
 
 -- one of the three conditions of the region
 abbrev pub is_avoidance : Condition → Bool

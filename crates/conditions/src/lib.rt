@@ -1,5 +1,6 @@
 // The tests of the rules that can settle a verdict other than Legal, and the verdict that each settles.
 #![tactic(auto)]
+
 ghost use Rattle.std.specs.Prelude.{◌≡◌};
 ghost use Rattle.conditions.specs.Conditions as Spec;
 

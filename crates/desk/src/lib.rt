@@ -1,5 +1,6 @@
 // What the program `judge` prints for what it reads: a sheet, the coach's lines, the items of a sheet, a refusal, or what is wrong with the input.
 #![tactic(auto)]
+
 ghost use Rattle.std.specs.Prelude.{◌≡◌, ◌+◌, ◌≤◌, length};
 ghost use Rattle.lines.specs.Over.{over};
 ghost use Rattle.input.specs.Input.{most_places, numbers_for};

@@ -1,5 +1,6 @@
 // The functions on floats that the rules use, each equal to its definition for every float. The rules see only these contracts and the laws.
 #![tactic(auto)]
+
 ghost use Rattle.std.specs.Prelude.{◌≡◌};
 ghost use Rattle.std.specs.Float.Ieee as Ieee;
 ghost use Rattle.std.specs.Float.{binary32};

@@ -1,5 +1,6 @@
 // Playing frames in a row: what is kept between frames, and what a frame and a touch of the ball make of it.
 #![tactic(auto)]
+
 ghost use Rattle.std.specs.Prelude.{◌≡◌};
 ghost use Rattle.positioning.specs.Positioning.{is_set_play};
 ghost use Rattle.frames.specs.Frames as Spec;

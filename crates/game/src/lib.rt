@@ -1,6 +1,7 @@
 // The used types of types.rs and lib.rs: the situation that a decision is asked of, and the decision. Everything goes by value.
 // Each "or none" is an enum whose empty case stands first, so that it is the value past the end of an array.
 #![tactic(auto)]
+
 ghost use Rattle.std.specs.Prelude.{◌≡◌, false, ◌<◌, get_or};
 ghost use Rattle.game.specs.Codes.{side_code};
 ghost use Rattle.game.specs.Game as Spec;

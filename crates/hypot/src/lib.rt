@@ -1,5 +1,6 @@
 // The length of the hypotenuse: the f32 nearest to the exact root, for every two floats.
 #![tactic(auto)]
+
 ghost use Rattle.std.specs.Prelude.{◌≡◌, ◌^◌, ◌<◌, not, T, is_nan, to_bits};
 ghost use Rattle.std.specs.Float.{binary64};
 ghost use Rattle.std.specs.Float.Ieee.{fits, add, mul};

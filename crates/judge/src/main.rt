@@ -1,15 +1,15 @@
 // judge [COMMAND] [FILE]: the answer goes to standard output; all else that is told, one line, goes to standard error.
 #![tactic(auto)]
+
 ghost use Rattle.std.specs.Prelude.{◌≡◌, ◌≤◌, length};
 
 use arguments::{Asked, Command, Source};
 use desk::Reply;
 use std::env::FillError;
 use std::fs::File;
-use std::io;
 use std::io::Read;
 use std::rt::{Env, Files};
-use std::str;
+use std::{io, str};
 
 // Room for the longest input, 8,759 numbers of ten digits, almost three times.
 const ROOM: usize = 262144;
@@ -82,10 +82,7 @@ fn run<R: Read>(
 fn open<F: Files>(files: &F, name: &[u8]) -> io::Result<F::File> {
     match str::from_utf8(name) {
         Ok(path) => File::open(files, path),
-        Err(_) => Err(io::Error::new(
-            io::ErrorKind::InvalidFilename,
-            "its name is not UTF-8",
-        )),
+        Err(_) => Err(io::Error::new(io::ErrorKind::InvalidFilename, "its name is not UTF-8")),
     }
 }
 
@@ -153,7 +150,10 @@ fn main(rt: HostRuntime) -> io::Result<()> {
     let m = read_word(&rt, 2, &mut second);
     let asked = arguments::asked_by(words, &first[..n], &second[..m]);
     match asked {
-        Asked::Unclear => tell(&err, b"unclear words: judge help tells how judge is called\n"),
+        Asked::Unclear => tell(
+            &err,
+            b"unclear words: judge help tells how judge is called\n",
+        ),
         Asked::Run(command, source) => match command {
             Command::Help => help(&out, &err),
             _ => match source {

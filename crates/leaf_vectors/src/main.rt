@@ -1,6 +1,7 @@
 // Compares the functions of `floats` and `candidates` with the vectors of standard input, which tools/leaf-vectors/make.py writes: README.md there has their
 // form. Writes a line for each vector that does not agree, and last how many agree of how many.
 #![tactic(auto)]
+
 mod decimals;
 mod lists;
 

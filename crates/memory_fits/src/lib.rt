@@ -1,5 +1,6 @@
 // Which memories between frames are accepted: refusals 2 to 4 of what is remembered and of a touch.
 #![tactic(auto)]
+
 ghost use Rattle.std.specs.Prelude.{◌≡◌, true};
 ghost use Rattle.lists.specs.Refusals.{first_refusal};
 ghost use Rattle.refusals.specs.Refusals as Refusals;

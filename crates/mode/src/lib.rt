@@ -2,6 +2,7 @@
 // In the language it always does, so the answer is proved to be true. Compiled, the operations are carried out in the caller's mode, and the answer is false in
 // any other. The proof shows that no right caller is refused; that wrong ones are is for `tools/check`, which tries the archive.
 #![tactic(auto)]
+
 ghost use Rattle.std.specs.Prelude.{◌≡◌, true};
 
 // 2^-30: added to 1, less than half of the last place.

@@ -1,5 +1,6 @@
 // Who is penalised in a frame, for leaving the field or for an illegal position.
 #![tactic(auto)]
+
 ghost use Rattle.std.specs.Prelude.{◌≡◌};
 ghost use Rattle.penalties.specs.Penalties as Spec;
 

@@ -1,5 +1,6 @@
 // Where a player may stand in a set play: the test of the rules that settles the verdict on its position, and the verdict.
 #![tactic(auto)]
+
 ghost use Rattle.std.specs.Prelude.{◌≡◌};
 ghost use Rattle.positioning.specs.Positioning as Spec;
 

@@ -1,5 +1,6 @@
 // Reads a sheet: whether a text is one, and the items of its lines.
 #![tactic(auto)]
+
 ghost use Rattle.std.specs.Prelude.{◌≡◌, ◌≤◌};
 ghost use Rattle.fields.specs.declared.ReadLine.TheVariants.{Line};
 ghost use Rattle.reading.specs.Rules as Rules;

@@ -4,6 +4,7 @@
 // floats and answers an i64 first asks for the mode, and answers -101 in a wrong one. The seed is a slice's length, and it is asked for before any test of that length:
 // past such a test the compiler knows it and works the answer out. In the language there is only the default, so that no contract has -101 in it.
 #![tactic(auto)]
+
 ghost use Rattle.std.specs.Prelude.{◌≡◌, ◌≤◌, ◌<◌, pos, length};
 ghost use Rattle.lists.specs.Put.{fronted};
 ghost use Rattle.floats.specs.Leaves.{rem_euclid};

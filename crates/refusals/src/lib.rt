@@ -1,5 +1,6 @@
 // What is no situation that can be judged: refusals 1 to 5 of document 01, the lowest number first.
 #![tactic(auto)]
+
 ghost use Rattle.std.specs.Prelude.{◌≡◌};
 ghost use Rattle.lists.specs.Refusals.{first_refusal};
 ghost use Rattle.refusals.specs.Refusals as Spec;

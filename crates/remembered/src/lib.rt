@@ -1,5 +1,6 @@
 // What is remembered of the players of a side between frames, and what a frame makes of it.
 #![tactic(auto)]
+
 ghost use Rattle.std.specs.Prelude.{◌≡◌};
 ghost use Rattle.remembered.specs.Remembered as Spec;
 

@@ -4,6 +4,7 @@
 // Kind 2: the input is four patterns, start, min, max and step, the room is a number of places, the answer is the number of candidates and their patterns, or
 // 0 and the refusal.
 #![tactic(auto)]
+
 mod lists;
 mod reading;
 mod sheets;

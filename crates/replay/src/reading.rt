@@ -39,12 +39,7 @@ fn rest<R: Read>(input: &mut R, buffer: &mut [u8], r: Record) -> io::Result<Outc
     if n < next - from {
         return Ok(Outcome::Broken);
     }
-    Ok(compared(
-        r.kind,
-        r.lent,
-        &buffer[from..answer],
-        &buffer[answer..next],
-    ))
+    Ok(compared(r.kind, r.lent, &buffer[from..answer], &buffer[answer..next]))
 }
 
 // The next record of the input. Its head tells where in the buffer the rest goes.

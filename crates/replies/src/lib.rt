@@ -1,5 +1,6 @@
 // Lines of text as answers, each written at the front of lent bytes: a refusal, or at which number of an input something is wrong and what.
 #![tactic(auto)]
+
 mod names;
 
 ghost use Rattle.std.specs.Prelude.{◌≡◌, ◌+◌, ◌≤◌, ◌<◌, length, take, get_or};

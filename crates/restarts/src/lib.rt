@@ -1,5 +1,6 @@
 // The Restart record that is in effect: what a touch of the ball, a change of the game and the way of the ball make of it.
 #![tactic(auto)]
+
 ghost use Rattle.std.specs.Prelude.{◌≡◌};
 ghost use Rattle.ball.specs.Ball.{is_penalty_shot};
 ghost use Rattle.restarts.specs.Restarts as Spec;

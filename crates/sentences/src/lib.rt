@@ -1,5 +1,6 @@
 // The line by which the coach is told a verdict other than Legal, and why, as "Home 4 illegal: own penalty area".
 #![tactic(auto)]
+
 ghost use Rattle.std.specs.Prelude.{◌≡◌, ◌+◌, ◌≤◌, length, take, drop};
 ghost use Rattle.lists.specs.Put.{fronted_into};
 ghost use Rattle.lines.specs.Over.{over};

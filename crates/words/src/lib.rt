@@ -1,5 +1,6 @@
 // The situation that words of 32 bits are, by the layout of the crate `columns`. A word past the end counts as 0, and one that is none of its column's values gives the first of them, or none.
 #![tactic(auto)]
+
 ghost use Rattle.std.specs.Prelude.{◌≡◌, ◌<◌, ◌≤◌};
 ghost use Rattle.columns.specs.Layout.{word_count};
 ghost use Rattle.words.specs.Words as Spec;
@@ -12,7 +13,6 @@ use game::{
 };
 
 #[tactic(auto, unfolding(crate::specs::Words::word_at))]
-
 fn word_at(words: &[u32], i: usize) -> u32
     ensures { result ≡ Spec.word_at words.now i }
 {
@@ -23,7 +23,6 @@ fn word_at(words: &[u32], i: usize) -> u32
 }
 
 #[tactic(auto, unfolding(crate::specs::Words::float_at))]
-
 fn float_at(words: &[u32], i: usize) -> f32
     ensures { result ≡ Spec.float_at words.now i }
 {
@@ -31,7 +30,6 @@ fn float_at(words: &[u32], i: usize) -> f32
 }
 
 #[tactic(auto, unfolding(crate::specs::Words::flag_at))]
-
 fn flag_at(words: &[u32], i: usize) -> bool
     ensures { result ≡ Spec.flag_at words.now i }
 {
@@ -39,7 +37,6 @@ fn flag_at(words: &[u32], i: usize) -> bool
 }
 
 #[tactic(auto, unfolding(crate::specs::Words::side_of))]
-
 pub fn side_of(word: u32) -> Side
     ensures { result ≡ Spec.side_of word }
 {
@@ -50,7 +47,6 @@ pub fn side_of(word: u32) -> Side
 }
 
 #[tactic(auto, unfolding(crate::specs::Words::sides_of))]
-
 fn sides_of(word: u32) -> SideMapping
     ensures { result ≡ Spec.sides_of word }
 {
@@ -61,7 +57,6 @@ fn sides_of(word: u32) -> SideMapping
 }
 
 #[tactic(auto, unfolding(crate::specs::Words::phase_of))]
-
 fn phase_of(word: u32) -> Phase
     ensures { result ≡ Spec.phase_of word }
 {
@@ -80,7 +75,6 @@ fn phase_of(word: u32) -> Phase
 }
 
 #[tactic(auto, unfolding(crate::specs::Words::state_of))]
-
 fn state_of(word: u32) -> State
     ensures { result ≡ Spec.state_of word }
 {
@@ -100,7 +94,6 @@ fn state_of(word: u32) -> State
 }
 
 #[tactic(auto, unfolding(crate::specs::Words::set_play_of))]
-
 fn set_play_of(word: u32) -> SetPlay
     ensures { result ≡ Spec.set_play_of word }
 {
@@ -122,7 +115,6 @@ fn set_play_of(word: u32) -> SetPlay
 }
 
 #[tactic(auto, unfolding(crate::specs::Words::penalty_of))]
-
 fn penalty_of(word: u32) -> Penalty
     ensures { result ≡ Spec.penalty_of word }
 {
@@ -150,7 +142,6 @@ fn penalty_of(word: u32) -> Penalty
 }
 
 #[tactic(auto, unfolding(crate::specs::Words::restart_kind_of))]
-
 fn restart_kind_of(word: u32) -> RestartKind
     ensures { result ≡ Spec.restart_kind_of word }
 {
@@ -168,7 +159,6 @@ fn restart_kind_of(word: u32) -> RestartKind
 }
 
 #[tactic(auto, unfolding(crate::specs::Words::maybe_side_of))]
-
 fn maybe_side_of(word: u32) -> MaybeSide
     ensures { result ≡ Spec.maybe_side_of word }
 {
@@ -180,7 +170,6 @@ fn maybe_side_of(word: u32) -> MaybeSide
 }
 
 #[tactic(auto, unfolding(crate::specs::Words::maybe_number_of))]
-
 fn maybe_number_of(word: u32) -> MaybeNumber
     ensures { result ≡ Spec.maybe_number_of word }
 {
@@ -191,7 +180,6 @@ fn maybe_number_of(word: u32) -> MaybeNumber
 }
 
 #[tactic(auto, unfolding(crate::specs::Words::number_of))]
-
 fn number_of(word: u32) -> u8
     ensures { result ≡ Spec.number_of word }
 {
@@ -202,7 +190,6 @@ fn number_of(word: u32) -> u8
 }
 
 #[tactic(auto, unfolding(crate::specs::Words::field_of))]
-
 fn field_of(words: &[u32]) -> FieldDimensions
     ensures { result ≡ Spec.field_of words.now }
 {
@@ -225,7 +212,6 @@ fn field_of(words: &[u32]) -> FieldDimensions
 }
 
 #[tactic(auto, unfolding(crate::specs::Words::game_of))]
-
 fn game_of(words: &[u32]) -> Game
     ensures { result ≡ Spec.game_of words.now }
 {
@@ -273,7 +259,6 @@ fn seen_pose_at(words: &[u32], i: usize) -> SeenPose
 }
 
 #[tactic(auto, unfolding(crate::specs::Words::reference_pose_at))]
-
 fn reference_pose_at(words: &[u32], i: usize) -> ReferencePose
     requires { i < word_count }
     ensures { result ≡ Spec.reference_pose_at words.now i }
@@ -326,7 +311,6 @@ fn team_in(words: &[u32], side: usize) -> Team
 }
 
 #[tactic(auto, unfolding(crate::specs::Words::restart_of, crate::specs::Words::maybe_restart_of))]
-
 fn maybe_restart_of(words: &[u32]) -> MaybeRestart
     ensures { result ≡ Spec.maybe_restart_of words.now }
 {
