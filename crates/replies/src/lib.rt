@@ -40,7 +40,6 @@ fn put_number(out: &mut [u8], at: usize, number: u64) -> usize
 }
 
 // The same of one of the texts of the names; of one that there is not, nothing.
-#[tactic(auto, unfolding(crate::specs::Texts::texts, crate::specs::Texts::names_of, crate::specs::Names::names, crate::specs::Decimal::decimal_from, crate::specs::Texts::start_of, crate::specs::Texts::flatten))]
 fn put_text(out: &mut [u8], at: usize, j: usize) -> usize
     requires { at + 40 ≤ length out.old }
     ensures value { (result ≡ at + length (text_at j)) × (result ≤ at + 40) }
@@ -57,7 +56,6 @@ fn put_text(out: &mut [u8], at: usize, j: usize) -> usize
 }
 
 // The same of what a word is called: whose it is, and its name.
-#[tactic(auto, unfolding(crate::specs::Names::names, crate::specs::Texts::owners, crate::specs::Texts::owners_of, crate::specs::Texts::called, crate::specs::Texts::places_of, lists::specs::Gather::flat_to))]
 fn put_label(out: &mut [u8], at: usize, i: usize) -> usize
     requires { (i < word_count) × (at + 80 ≤ length out.old) }
     ensures value { (result ≡ at + length (Spec.label_of i)) × (result ≤ at + 80) }
@@ -160,7 +158,6 @@ pub fn fault_line(numbers: &[u32], i: usize, fault: Fault, out: &mut [u8]) -> us
 }
 
 // "refused 5", then a line feed; the same where the lent bytes are too few.
-#[tactic(auto, unfolding(crate::specs::Replies::refused_line))]
 pub fn refused_line(refusal: u8, out: &mut [u8]) -> usize
     ensures value { result ≡ Spec.written_in (Spec.refused_line refusal) out.old }
     ensures out_after { out.new ≡ Spec.line_in (Spec.refused_line refusal) out.old }

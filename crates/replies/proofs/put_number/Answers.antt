@@ -1,5 +1,5 @@
 -- The number's digits, which are 20 at most, are one piece.
-use Rattle.std.proofs.Common.{◌≤◌, ◌∙◌, arith}
+use Rattle.std.proofs.Common.{◌∙◌, arith}
 use Rattle.lines.proofs.Over.{stage_none, stage_next}
 use Rattle.replies.specs.Decimal.{decimal_of}
 use Rattle.replies.proofs.Decimal.{fewest_few, decimal_told}
