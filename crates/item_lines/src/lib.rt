@@ -129,7 +129,6 @@ fn put_amount(line: &mut [u8], at: usize, p: u32) -> usize
 }
 
 // The same of a placed number.
-#[tactic(auto, unfolding(crate::specs::Values::value_text))]
 fn put_value(line: &mut [u8], at: usize, p: u32) -> usize
     requires { at + 58 ≤ length line.old }
     ensures value { (result ≡ at + length (Value.value_text p)) × (result ≤ at + 58) }
@@ -153,7 +152,6 @@ fn put_side(line: &mut [u8], at: usize, side: Side) -> usize
 }
 
 // The same of a player, from the front of a line on.
-#[tactic(auto, unfolding(crate::specs::ItemLines::player_text))]
 fn put_player(line: &mut [u8], side: Side, number: u32) -> usize
     requires { 25 ≤ length line.old }
     ensures value { (result ≡ 0 + length (Spec.player_text side number)) × (result ≤ 25) }
@@ -269,7 +267,6 @@ fn put_standing(line: &mut [u8], side: Side, number: u32, verdict: Positioning) 
 }
 
 // The same of one who is too many.
-#[tactic(auto, unfolding(crate::specs::ItemLines::excess_text))]
 fn put_excess(line: &mut [u8], side: Side, number: u32, rank: u32) -> usize
     requires { 85 ≤ length line.old }
     ensures value { (result ≡ 0 + length (Spec.excess_text side number rank)) × (result ≤ 85) }
@@ -299,7 +296,6 @@ fn put_item(line: &mut [u8], item: Item) -> usize
 }
 
 // "Home 4 stands illegally", then a line feed: what a line of a sheet says. Answers the length; 0, and nothing is written, where the lent bytes are too few.
-#[tactic(auto, unfolding(crate::specs::ItemLines::item_line))]
 pub fn item_line(item: Item, out: &mut [u8]) -> usize
     ensures value { result ≡ written_in (Spec.item_line item) out.old }
     ensures out_after { out.new ≡ line_in (Spec.item_line item) out.old }
