@@ -7,14 +7,14 @@ use Rattle.coach.proofs.side_sentences.Goals as goal
 pub loop-i-init : goal.loop-i-init
 loop-i-init c = (search rules, lines_none c.args.side c.args.conditions c.args.at c.args.lines.now)
 
-pub ended_sentence-requires : goal.ended_sentence-requires
-ended_sentence-requires c = omega (arith, c.loop-i.invariant.1.end, c.loop-i.invariant.1.long, lines_few c.args.side c.args.conditions c.loop-i.i, c.requires)
+pub ended_sentence-next-requires : goal.ended_sentence-next-requires
+ended_sentence-next-requires c = omega (arith, c.loop-i.invariant.1.end, c.loop-i.invariant.1.long, lines_few c.args.side c.args.conditions c.loop-i.i, c.requires)
 
 pub loop-i-preserved : goal.loop-i-preserved
 loop-i-preserved c =
     let few = lines_few c.args.side c.args.conditions c.loop-i.i in (
       search rules,
-      lines_next c.args.side c.args.conditions c.loop-i.i c.ended_sentence.result _ c.loop-i.invariant.1 (omega (arith, c.loop-i.invariant.1.end, few, c.requires)) c.ended_sentence.ensures.value c.ended_sentence.ensures.lines_after c.ended_sentence.auto.lines,
+      lines_next c.args.side c.args.conditions c.loop-i.i c.ended_sentence-next.result _ c.loop-i.invariant.1 (omega (arith, c.loop-i.invariant.1.end, few, c.requires)) c.ended_sentence-next.ensures.value c.ended_sentence-next.ensures.lines_after c.ended_sentence-next.auto.lines,
     )
 
 pub returns : goal.returns

@@ -1,5 +1,5 @@
 -- What is not refused is written as the line of its condition; a number that is not refused is from 1 to 20.
-use Rattle.std.proofs.Common.{◌≡◌, sym, ap, ◌∙◌, List, ◌-◌, length, get_or}
+use Rattle.std.proofs.Common.{◌≡◌, sym, ap, ◌∙◌, List, ℕ, ◌-◌, length, get_or}
 use Rattle.conditions.specs.declared.Condition.TheVariants.{NoCondition}
 use Rattle.conditions.specs.declared.PlayerCondition.{PlayerCondition}
 use Rattle.coach.specs.Coach.{sentence_of, text_answer, text_after, condition_for}
