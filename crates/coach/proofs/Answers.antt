@@ -1,5 +1,5 @@
 -- What the coach's calls answer and leave: their lists of refusals. Assumes nothing.
-use mathlib.Core.Path.{◌≡◌, refl, sym, ap, subst, ◌∙◌}
+use mathlib.Core.Path.{◌≡◌, refl, sym, ap, ◌∙◌}
 use mathlib.Core.Bool.{Bool, true, false, not, ◌&&◌, ◌||◌, cond}
 use mathlib.Core.List.{List, [], ◌∷◌, ◌++◌}
 use Prim.Native.Nat.{ℕ, ◌≤◌}
@@ -8,7 +8,7 @@ use borrow.Author.Tests.{eq-eqb, ne_eqb, leb-true}
 use lib.Dec.{eqb, leb, ltb}
 use lib.Ieee.{Float}
 use lib.ListN.{length, take, drop}
-use Rattle.lists.specs.Put.{fronted, fronted_into}
+use Rattle.lists.specs.Put.{fronted_into}
 use Rattle.lists.specs.Refusals.{first_refusal, all_numbered}
 use Rattle.lists.proofs.Bools.{both_true}
 use Rattle.game.specs.Players.{min_number, max_number}

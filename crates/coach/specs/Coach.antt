@@ -1,5 +1,5 @@
 -- The coach's calls: the line on one player, or those on all that do not stand legally, by the first refusal of a list or the text. Definitions only.
-use Rattle.std.specs.Prelude.{Bool, not, ◌&&◌, ◌||◌, cond, List, [], ◌∷◌, ◌++◌, ℕ, eqb, leb, Float, length, take, drop, get_or}
+use Rattle.std.specs.Prelude.{not, ◌&&◌, ◌||◌, cond, List, [], ◌∷◌, ◌++◌, ℕ, eqb, leb, Float, length, take, drop, get_or}
 use Rattle.lists.specs.Gather.{flat_to}
 use Rattle.lists.specs.Put.{fronted, fronted_into}
 use Rattle.lists.specs.Refusals.{Requirement, first_refusal}
