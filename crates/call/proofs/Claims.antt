@@ -2,7 +2,7 @@
 use mathlib.Core.Path.{◌≡◌, refl, sym, ap, ◌∙◌}
 use mathlib.Core.Bool.{Bool, true, false, cond, true≢false}
 use mathlib.Core.List.{List}
-use Prim.Native.Nat.{ℕ, ◌≤◌, ◌<◌}
+use Prim.Native.Nat.{ℕ, ◌≤◌}
 use native.Mathlib.Omega.{arith}
 use borrow.Author.Tests.{eq-eqb, eqb-true, le-leb, lt-leb, le-ltb, ltb-false}
 use lib.Dec.{eqb, ltb}
@@ -22,7 +22,7 @@ use Rattle.sheet.proofs.Answers.{text_long}
 use Rattle.call.specs.declared.SheetFor.{SheetFor}
 use Rattle.call.specs.declared.SheetFor.TheVariants.{Desk, Display}
 use Rattle.call.specs.Call.{shows, sheet_answer, sheet_after}
-use Rattle.call.specs.Claims.{AsBefore, DeskClaim, Displayed, DisplayClaim}
+use Rattle.call.specs.Claims.{DeskClaim, DisplayClaim}
 use Rattle.call.proofs.Answers.{refusal_for, answer_cases, after_told, first_of_five, twelve, none_refused, refused_before}
 
 -- ---- a sheet that is written
