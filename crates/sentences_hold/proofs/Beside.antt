@@ -1,15 +1,13 @@
 -- A player has a line of kind 1 exactly where its sentence is not empty, and the verdict in the sentence is the decision's. Assumes nothing.
-use mathlib.Core.Path.{◌≡◌, refl, sym, ap, ap₂, subst, ◌∙◌}
+use mathlib.Core.Path.{◌≡◌, refl, sym, ap, ap₂, ◌∙◌}
 use mathlib.Core.Bool.{Bool, true, false, not, ◌&&◌, ◌||◌}
 use mathlib.Core.List.{List, [], ◌∷◌, ◌++◌}
 use mathlib.Core.Logic.{⊎_elim}
-use Prim.Native.Nat.{ℕ, zero, suc, ◌+◌, ◌≤◌, ◌<◌}
+use Prim.Native.Nat.{ℕ, zero, suc, ◌+◌, ◌<◌}
 use native.Mathlib.Nat.{eq-or-lt_of_le, le_of_suc-le-suc}
 use native.Mathlib.Omega.{arith}
 use borrow.Author.Tests.{eq-eqb, ne_eqb}
 use lib.Dec.{eqb, ltb}
-use lib.Ieee.{Float}
-use lib.ListN.{length}
 use Rattle.lists.specs.Gather.{flat_to, only_if}
 use Rattle.game.specs.Codes.{side_code, positioning_code}
 use Rattle.game.specs.Players.{number_at}
@@ -18,13 +16,11 @@ use Rattle.game.specs.declared.Positioning.{Positioning}
 use Rattle.game.specs.declared.PlayerVerdict.{PlayerVerdict}
 use Rattle.game.specs.declared.Side.{Side}
 use Rattle.game.specs.declared.Side.TheVariants.{Home, Away}
-use Rattle.game.specs.declared.Situation.{Situation}
-use Rattle.conditions.specs.Conditions.{is_some}
 use Rattle.decision.specs.Decision.{decision_of}
 use Rattle.lines.specs.declared.Row.{Row}
 use Rattle.sheet.specs.Rows.{row, verdict_code, verdict_row, verdict_rows}
 use Rattle.coach.specs.Coach.{condition_for, sentence_of}
-use Rattle.sentences_hold.specs.Claims.{side_in, verdict_in, verdict_line, verdict_lines, any_for, BesideSheetClaim}
+use Rattle.sentences_hold.specs.Claims.{verdict_in, verdict_line, verdict_lines, any_for, BesideSheetClaim}
 use Rattle.sentences_hold.proofs.Verdicts.{verdict_told, line_of_verdict, some_coded, empty_unless}
 use Rattle.sentences_hold.proofs.Kind.{verdict_lines_holds}
 

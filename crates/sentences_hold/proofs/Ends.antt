@@ -6,7 +6,6 @@ use Prim.Native.Nat.{ℕ}
 use lib.Dec.{eqb}
 use lib.Ieee.{Float}
 use lib.ListN.{length, take, drop}
-use Rattle.lists.specs.Gather.{flat_to}
 use Rattle.lists.specs.Put.{fronted}
 use Rattle.lists.specs.Refusals.{Requirement, first_refusal}
 use Rattle.lists.proofs.Gather.{flat_same}
@@ -17,19 +16,17 @@ use Rattle.game.specs.declared.Side.{Side}
 use Rattle.game.specs.declared.Side.TheVariants.{Home, Away}
 use Rattle.game.specs.declared.Situation.{Situation}
 use Rattle.game.specs.declared.Team.{Team}
-use Rattle.geometry.specs.Geometry.{side_to_sign, seen_margins, player_margins}
-use Rattle.geometry.specs.Turned.{signed, changed_team, changed_player, changed_game, changed_ball}
+use Rattle.geometry.specs.Geometry.{side_to_sign, player_margins}
+use Rattle.geometry.specs.Turned.{changed_player, changed_game, changed_ball}
 use Rattle.geometry.proofs.Turned.{sign_changed, seen_margins_changed, numbered_changed}
-use Rattle.conditions.specs.declared.Condition.{Condition}
 use Rattle.positioning.specs.Positioning.{condition_of}
 use Rattle.positioning.proofs.Turned.{condition_changed}
-use Rattle.refusals.specs.Refusals.{requirements_of}
 use Rattle.decision.specs.Changed.{changed, changed_places}
 use Rattle.decision.proofs.Changed.{requirements_changed}
 use Rattle.decision.proofs.Sides.{team_of_changed}
 use Rattle.sheet.specs.Sheet.{answered}
-use Rattle.coach.specs.Coach.{condition_for, line_for, sentence_of, numbered, room_for, asked_requirements, coach_requirements, sentence_answer, sentence_after, ended, side_sentences, sentences_of, all_requirements, sentences_answer, sentences_after}
-use Rattle.sentences_hold.specs.Claims.{Alike, BothEndsClaim, CoachHalfTurnClaim}
+use Rattle.coach.specs.Coach.{condition_for, line_for, sentence_of, numbered, room_for, asked_requirements, sentence_answer, sentence_after, ended, side_sentences, sentences_of, sentences_answer, sentences_after}
+use Rattle.sentences_hold.specs.Claims.{BothEndsClaim, CoachHalfTurnClaim}
 
 module _ (a b : Bool) (s : Situation) (xs ys : List Float) where
   -- ---- the lines

@@ -2,27 +2,24 @@
 use mathlib.Core.Path.{◌≡◌, refl, sym, ap, ap₂, ◌∙◌}
 use mathlib.Core.Bool.{Bool, true, false, cond}
 use mathlib.Core.List.{List, [], ◌∷◌, ◌++◌, append_assoc, append-nil}
-use Prim.Native.Nat.{ℕ, zero, suc, ◌+◌, ◌<◌}
+use Prim.Native.Nat.{ℕ, zero, suc, ◌+◌}
 use lib.Dec.{ltb}
 use lib.Ieee.{Float}
-use lib.ListN.{length}
 use Rattle.lists.specs.Gather.{flat_to, only_if}
 use Rattle.lists.proofs.Gather.{flat_same}
 use Rattle.game.specs.Codes.{side_code, positioning_code}
 use Rattle.game.specs.Players.{number_at}
 use Rattle.game.specs.declared.Positioning.{Positioning}
-use Rattle.game.specs.declared.PlayerVerdict.{PlayerVerdict}
 use Rattle.game.specs.declared.Side.{Side}
 use Rattle.game.specs.declared.Side.TheVariants.{Home, Away}
 use Rattle.game.specs.declared.Situation.{Situation}
 use Rattle.conditions.specs.Conditions.{verdict_of, is_some}
-use Rattle.conditions.specs.declared.Condition.{Condition}
 use Rattle.decision.specs.Decision.{decision_of}
 use Rattle.lines.specs.declared.Row.{Row}
 use Rattle.sentences.specs.Sentences.{line_of}
 use Rattle.sheet.specs.Rows.{row, verdict_code, verdict_row, verdict_rows}
-use Rattle.coach.specs.Coach.{condition_for, line_for, sentence_of, ended, side_sentences, sentences_of}
-use Rattle.sentences_hold.specs.Claims.{side_in, verdict_in, side_of_code, row_sentences, SheetOrderClaim}
+use Rattle.coach.specs.Coach.{condition_for, sentence_of, ended, side_sentences, sentences_of}
+use Rattle.sentences_hold.specs.Claims.{side_in, side_of_code, row_sentences, SheetOrderClaim}
 use Rattle.sentences_hold.proofs.Verdicts.{verdict_told, some_coded}
 use Rattle.sentences_hold.proofs.Kind.{verdict_lines_holds}
 

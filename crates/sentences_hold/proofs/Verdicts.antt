@@ -2,7 +2,7 @@
 use mathlib.Core.Path.{◌≡◌, refl, sym, ap, ◌∙◌}
 use mathlib.Core.Bool.{Bool, true, false, not, cond}
 use mathlib.Core.List.{List, []}
-use Prim.Native.Nat.{ℕ, ◌≤◌, ◌<◌}
+use Prim.Native.Nat.{ℕ, ◌<◌}
 use native.Mathlib.Omega.{arith}
 use borrow.Author.Tests.{ne_eqb}
 use lib.Dec.{eqb, ltb}
@@ -12,7 +12,6 @@ use Rattle.lists.proofs.Table.{table_at}
 use Rattle.game.specs.Codes.{positioning_code}
 use Rattle.game.specs.Players.{team_of, number_at}
 use Rattle.game.specs.declared.PlayerVerdict.{PlayerVerdict}
-use Rattle.game.specs.declared.Positioning.{Positioning}
 use Rattle.game.specs.declared.Positioning.TheVariants.{Legal}
 use Rattle.game.specs.declared.Side.{Side}
 use Rattle.game.specs.declared.Side.TheVariants.{Home, Away}
