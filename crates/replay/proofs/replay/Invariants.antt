@@ -1,0 +1,6 @@
+-- The measure is how many records are left to read.
+use Rattle.std.proofs.Common.{◌≡◌, length}
+use Rattle.replay.proofs.replay.Given as goal
+
+abbrev pub decreases-loop-left : goal.decreases-loop-left
+decreases-loop-left g l = l.left
