@@ -18,7 +18,7 @@ use Rattle.reading.proofs.Blocks.{Blocked, excess, other, blocked}
 use Rattle.reading.proofs.ItemKinds.{one, four, five, three, six, Rule, rise, name, alone, place, rule_of}
 use Rattle.reading.proofs.Runs.{run_from, run_end, runs, in_block}
 use Rattle.reading.proofs.Fits.{Fits, fits_accepts, accepts_fits}
-use Rattle.reading.proofs.ByRule.{ruled, in_a_row, rule_law, rule_pos, rule_or_none}
+use Rattle.reading.proofs.ByRule.{ruled, in_a_row_holds, rule_law, rule_pos, rule_or_none}
 
 -- ---- the clauses
 -- items in order, and each block by its rule
@@ -46,7 +46,7 @@ test_body : (rs : List Row) → is_body rs ≡ true → ByBlocks rs
 test_body rs t =
     let v = body_view rs t in
     let rules : (b : ℕ) (c : Rule b) → ruled c rs ≡ true =
-    λ b c. elim c [
+    λ b c. elim c as (λ (k : Rule b). ruled k rs ≡ true) [
       | rise k p e ↦ elim p [ one q ↦ ap (λ (x : ℕ). players_rise x rs) q ∙ v.verdicts | four q ↦ ap (λ (x : ℕ). players_rise x rs) q ∙ v.leaving | five q ↦ ap (λ (x : ℕ). players_rise x rs) q ∙ v.moved ]
       | name side l e ↦ by_side side l (both (ranked 0 rs) (named_once 0 rs) v.home_ranks v.home_once) (both (ranked 1 rs) (named_once 1 rs) v.away_ranks v.away_once)
       | alone k p e ↦ elim p [ three q ↦ ap (λ (x : ℕ). at_most_one x rs) q ∙ v.one_kicker | six q ↦ ap (λ (x : ℕ). at_most_one x rs) q ∙ v.one_judgment ]
@@ -85,7 +85,7 @@ module _ (h : Row) (k : h.kind ≡ 0) where
   fits_body rs f =
       record {
         items = f.items;
-        order = in_a_row not_before h rs f.order;
+        order = in_a_row_holds not_before h rs f.order;
         rules = λ b c. sym (rule_law h rs f.items f.order b c) ∙ f.later b (omega (arith, block_zero, rule_pos b c));
       }
 

@@ -1,6 +1,6 @@
 -- The answers, by the walk over the lines. Assumes nothing.
 use mathlib.Core.Path.{◌≡◌, refl, sym, ap, ap₂, ◌∙◌}
-use mathlib.Core.Bool.{Bool, true, false, not, ◌&&◌, ◌||◌, cond, true≢false}
+use mathlib.Core.Bool.{Bool, true, false, not, ◌||◌, cond, true≢false}
 use mathlib.Core.List.{List, [], ◌∷◌, map}
 use Prim.Native.Nat.{ℕ, zero, suc, ◌-◌, ◌*◌, ◌/◌, ◌%◌, ◌≤◌, ◌<◌, suc-le-suc}
 use native.Mathlib.Nat.{not-suc-le-zero, le_of_suc-le-suc}
@@ -19,12 +19,11 @@ use Rattle.fields.specs.declared.ReadLine.{ReadLine}
 use Rattle.fields.specs.declared.ReadLine.TheVariants.{NoLine, Line}
 use Rattle.fields.proofs.Rows.{line_written}
 use Rattle.fields.proofs.Texts.{SmallRows, one_row, length_rows, text_written}
-use Rattle.items.specs.Items.{is_item, row_of, item_of}
+use Rattle.items.specs.Items.{is_item, item_of}
 use Rattle.items.proofs.Back.{row_back}
 use Rattle.reading.specs.Rules.{every, is_body, is_header, is_sheet}
 use Rattle.reading.specs.Reading.{counted, read_refusal, following, items_in, sheet_read, nth_item, asked_item, item_read, numbers_of, numbers_read}
 use Rattle.reading.specs.Walk.{lines_in, walked, broken, whole, counted_by}
-use Rattle.reading.specs.declared.SheetRead.{SheetRead}
 use Rattle.reading.specs.declared.SheetRead.TheVariants.{NotRead, Lines}
 use Rattle.reading.specs.declared.LineRead.{LineRead}
 use Rattle.reading.specs.declared.LineRead.TheVariants.{RefusedLine, NoSuchLine, LineOf}

@@ -71,9 +71,9 @@ up_to_nine r h (single (six e)) = absurd (omega arith)
 up_to_nine r h (placed l m) = both (leb 7 r.kind) (leb r.kind 9) (le-leb 7 r.kind l) (le-leb r.kind 9 m)
 
 -- what stands in a row after a line, stands in a row
-pub in_a_row : (p : Row → Row → Bool) (h : Row) (rs : List Row) → each_next p h rs ≡ true → in_a_row p rs ≡ true
-in_a_row p h [] e = refl
-in_a_row p h (r ∷ rs) e = (next_split p h r rs e).1
+pub in_a_row_holds : (p : Row → Row → Bool) (h : Row) (rs : List Row) → each_next p h rs ≡ true → in_a_row p rs ≡ true
+in_a_row_holds p h [] e = refl
+in_a_row_holds p h (r ∷ rs) e = (next_split p h r rs e).1
 
 one_place_holds : (rs : List Row) → one_place_of (placing rs) ≡ one_place rs
 one_place_holds rs = simp (among 7 (omega arith), among 8 (omega arith), among 9 (omega arith))
@@ -86,7 +86,7 @@ place_law b e h rs i o =
     ap runs (block_is b 14 (λ r. leb 7 r.kind) e (λ r _. in_place r) rs i)
     ∙ place_run (placing rs)
     (every_only (λ r. leb 7 r.kind) is_placing is_item (λ r a y. up_to_nine r (leb-true 7 r.kind y) (kind_of r a)) rs i)
-    (in_a_row (up_by (λ r. r.kind)) h (placing rs) (up_only (λ r. r.kind) (λ r. leb 7 r.kind) h rs (next_imply not_before (up_by (λ r. r.kind)) kind_up h rs o)))
+    (in_a_row_holds (up_by (λ r. r.kind)) h (placing rs) (up_only (λ r. r.kind) (λ r. leb 7 r.kind) h rs (next_imply not_before (up_by (λ r. r.kind)) kind_up h rs o)))
     ∙ one_place_holds rs
 
 pub rule_law : (h : Row) (rs : List Row) → every is_item rs ≡ true → each_next not_before h rs ≡ true → (b : ℕ) (c : Rule b) → runs (in_block b rs) ≡ ruled c rs

@@ -1,6 +1,6 @@
 -- Texts, evaluated by the definitions. The numbers are worked out from the words of document 02's third request. Assumes nothing.
 use mathlib.Core.Path.{◌≡◌, refl}
-use mathlib.Core.List.{List, [], ◌∷◌, ◌++◌}
+use mathlib.Core.List.{List, [], ◌∷◌}
 use Prim.Native.Nat.{ℕ}
 use lib.ListN.{set, take}
 use Rattle.lists.specs.Every.{every_to}

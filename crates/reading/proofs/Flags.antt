@@ -33,18 +33,18 @@ flagged_one n m = by_order (λ (o : Ordering). flagged (2 ^ n) m ≡ compare_is_
     above h = ap (λ (x : ℕ). eqb (x % 2) 1) (div-eq_of_lt (pow-lt h))
 
 -- ---- one more flag
-bit_or : (x y : ℕ) → x < 2 → y < 2 → eqb (bit_or x y) 1 ≡ (eqb x 1 || eqb y 1)
-bit_or zero y h g = refl
-bit_or (suc zero) zero h g = refl
-bit_or (suc zero) (suc zero) h g = refl
-bit_or (suc zero) (suc (suc y)) h g = absurd (omega arith)
-bit_or (suc (suc x)) y h g = absurd (omega arith)
+bit_or_holds : (x y : ℕ) → x < 2 → y < 2 → eqb (bit_or x y) 1 ≡ (eqb x 1 || eqb y 1)
+bit_or_holds zero y h g = refl
+bit_or_holds (suc zero) zero h g = refl
+bit_or_holds (suc zero) (suc zero) h g = refl
+bit_or_holds (suc zero) (suc (suc y)) h g = absurd (omega arith)
+bit_or_holds (suc (suc x)) y h g = absurd (omega arith)
 
 pub flagged_more : (seen n m : ℕ) → flagged (bit_or seen (2 ^ n)) m ≡ (flagged seen m || eqb m n)
 flagged_more seen n m =
     ap (λ (x : ℕ). eqb (x % 2) 1) (or_shr seen (2 ^ n) m)
     ∙ ap (λ (x : ℕ). eqb x 1) (or_mod (seen / 2 ^ m) (2 ^ n / 2 ^ m) 1)
-    ∙ bit_or (seen / 2 ^ m % 2) (2 ^ n / 2 ^ m % 2) (mod-lt (seen / 2 ^ m) (zero-lt-suc 1)) (mod-lt (2 ^ n / 2 ^ m) (zero-lt-suc 1))
+    ∙ bit_or_holds (seen / 2 ^ m % 2) (2 ^ n / 2 ^ m % 2) (mod-lt (seen / 2 ^ m) (zero-lt-suc 1)) (mod-lt (2 ^ n / 2 ^ m) (zero-lt-suc 1))
     ∙ ap (λ (b : Bool). flagged seen m || b) (flagged_one n m)
 
 -- ---- none

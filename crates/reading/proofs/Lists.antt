@@ -65,9 +65,9 @@ module _ (p : Row → Row → Bool) (P : Row → Type 0) (key : Row → ℕ) (st
   each_next_holds r h (one_more {x = t} {l = rs} g gs) (next l c) = both (p r t) (each_next p t rs) (told r t h g l) (each_next_holds t g gs c)
 
   -- where the keys rise
-  pub in_a_row : {rs : List Row} {lo hi : ℕ} → All P rs → Chain key step lo hi rs → in_a_row p rs ≡ true
-  in_a_row no_more (last l) = refl
-  in_a_row (one_more {x = r} h hs) (next l c) = each_next_holds r h hs c
+  pub in_a_row_holds : {rs : List Row} {lo hi : ℕ} → All P rs → Chain key step lo hi rs → in_a_row p rs ≡ true
+  in_a_row_holds no_more (last l) = refl
+  in_a_row_holds (one_more {x = r} h hs) (next l c) = each_next_holds r h hs c
 
 -- ---- ranks
 -- the values of a table that counts on

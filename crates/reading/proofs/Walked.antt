@@ -24,7 +24,7 @@ use Rattle.items.specs.Items.{is_item}
 use Rattle.items.proofs.View.{item_number}
 use Rattle.reading.specs.Rules.{not_before, is_body, is_header, is_sheet}
 use Rattle.reading.specs.Reading.{counted}
-use Rattle.reading.specs.Walk.{linked, fits_after, seen_after, ends, opens, after_line, next, lines_in, walked, broken, whole, counted_by, accepts}
+use Rattle.reading.specs.Walk.{linked, fits_after, seen_after, opens, after_line, next, lines_in, walked, broken, whole, counted_by, accepts}
 use Rattle.reading.specs.declared.Walk.{Walk}
 use Rattle.reading.specs.declared.Walk.TheVariants.{NotLines, Breach, Start, After}
 use Rattle.reading.proofs.Accepts.{accepts_body}

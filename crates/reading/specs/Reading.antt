@@ -1,5 +1,5 @@
 -- What the reader answers. Definitions only.
-use Rattle.std.specs.Prelude.{Bool, true, not, ◌&&◌, ◌||◌, cond, List, [], ◌∷◌, map, ℕ, zero, suc, eqb, length}
+use Rattle.std.specs.Prelude.{Bool, true, not, ◌||◌, cond, List, [], ◌∷◌, map, ℕ, zero, suc, eqb, length}
 use Rattle.lists.specs.Refusals.{Requirement, first_refusal}
 use Rattle.lines.specs.declared.Row.{Row}
 use Rattle.fields.specs.Fields.{column_form, rows_in}
