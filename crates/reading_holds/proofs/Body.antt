@@ -25,7 +25,7 @@ use Rattle.sheet.specs.Rows.{row, verdict_code, verdict_row, verdict_rows, numbe
 use Rattle.items.specs.Items.{is_item}
 use Rattle.reading.specs.Rules.{only, every, each_next, in_a_row, of_kind, not_before, in_order, earlier, players_rise, ranks_from, ranked, none_twice, named_once, at_most_one, as_many, same_who, placing, one_place, is_body}
 use Rattle.reading.proofs.All.{Distinct, distinct_each, Chain, chain_lower, chain_append, chain_only, chain_flat, chain_each}
-use Rattle.reading.proofs.Lists.{all_kept, every_line, none_twice_holds, in_a_row, ranks_table}
+use Rattle.reading.proofs.Lists.{all_kept, every_line, none_twice_holds, in_a_row_holds, ranks_table}
 use Rattle.reading_holds.proofs.Orderly.{Rising, Orderly}
 use Rattle.reading_holds.proofs.Faithful.{Low}
 use Rattle.reading_holds.proofs.Back.{rows_told, rows_low}
@@ -115,10 +115,10 @@ module _ (d : Decision) (o : Orderly d) where
   items_clause = every_line is_item (rows_told d o)
 
   order_clause : in_order (rows_of d) ≡ true
-  order_clause = in_a_row not_before Low rank_of 0 not_before_holds (rows_low d o) (rows_ordered d)
+  order_clause = in_a_row_holds not_before Low rank_of 0 not_before_holds (rows_low d o) (rows_ordered d)
 
   rise_clause : (kind : ℕ) (l : List Row) → of_kind kind (rows_of d) ≡ l → Chain player_of 1 1 42 l → players_rise kind (rows_of d) ≡ true
-  rise_clause kind l e c = in_a_row earlier Low player_of 1 is_earlier (all_kept (λ r. eqb r.kind kind) (λ r h t. h) (rows_low d o)) (subst (Chain player_of 1 1 42) (sym e) c)
+  rise_clause kind l e c = in_a_row_holds earlier Low player_of 1 is_earlier (all_kept (λ r. eqb r.kind kind) (λ r h t. h) (rows_low d o)) (subst (Chain player_of 1 1 42) (sym e) c)
 
   verdicts_clause : players_rise 1 (rows_of d) ≡ true
   verdicts_clause = rise_clause 1 (verdict_rows Home d.home.verdicts ++ verdict_rows Away d.away.verdicts) (verdicts_only d) (both_rise (verdicts_rise Home d.home.verdicts) (verdicts_rise Away d.away.verdicts))
