@@ -20,7 +20,6 @@ use Rattle.items.specs.Items.{row_of, is_player, is_judged, is_verdict, is_item,
 use Rattle.items.specs.declared.Item.{Item}
 use Rattle.items.specs.declared.Item.TheVariants.{Verdict, Excess, Kicks, Leaves, HasMoved, Judged}
 use Rattle.reading_holds.proofs.Orderly.{Numbered}
-use Rattle.reading_holds.proofs.Values.{value_small}
 
 -- bounds of a line's numbers
 pub record Low (r : Row) : Type 0 where

@@ -5,7 +5,6 @@ use Prim.Native.Nat.{ℕ}
 use lib.Ieee.{Float}
 use lib.ListN.{length}
 use Rattle.game.specs.declared.Situation.{Situation}
-use Rattle.refusals.specs.Refusals.{refusal_of}
 use Rattle.decision.specs.Decision.{decision_of}
 use Rattle.sheet.specs.declared.text.SheetAnswer.TheVariants.{Written}
 use Rattle.call.specs.declared.SheetFor.{SheetFor}

@@ -9,7 +9,7 @@ use Rattle.lists.proofs.Bools.{both, both_true, or_right}
 use Rattle.lines.specs.declared.Row.{Row}
 use Rattle.fields.specs.Fields.{column_form, rows_in}
 use Rattle.reading.specs.Rules.{is_body, is_header, is_sheet}
-use Rattle.reading.specs.Reading.{counted, read_refusal}
+use Rattle.reading.specs.Reading.{counted}
 use Rattle.reading.proofs.Answers.{refusal_is, accepted_view}
 use Rattle.reading.proofs.Longest.{longest}
 use Rattle.reading_holds.specs.Claims.{RefusalsClaim, LongestClaim}

@@ -1,5 +1,5 @@
 -- What is claimed of sheets that are read: which texts are accepted, and that what is read is what was written, both ways. Definitions only.
-use Rattle.std.specs.Prelude.{◌≡◌, Bool, true, false, ◌&&◌, List, [], ◌∷◌, map, ℕ, ◌≤◌, Float, length, take}
+use Rattle.std.specs.Prelude.{◌≡◌, Bool, true, false, ◌&&◌, List, ◌∷◌, map, ℕ, ◌≤◌, Float, length, take}
 use Rattle.game.specs.declared.Situation.{Situation}
 use Rattle.decision.specs.Decision.{decision_of}
 use Rattle.lines.specs.Line.{lines_of}
