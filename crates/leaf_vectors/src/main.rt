@@ -3,7 +3,7 @@
 #![tactic(auto)]
 
 mod decimals;
-mod lists;
+mod filled;
 
 ghost use Rattle.std.specs.Prelude.{◌≤◌};
 
@@ -66,7 +66,7 @@ fn value(vector: &[u32]) -> u32 {
         10 => bits(floats::rem_euclid(x, y)),
         11 => bits(hypot::hypot(x, y)),
         12 => bits(floats::from_count((a % 65536) as u16)),
-        13..=18 => lists::value(function, vector),
+        13..=18 => filled::value(function, vector),
         _ => NOTHING,
     }
 }
