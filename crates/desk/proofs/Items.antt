@@ -1,5 +1,5 @@
 -- The lines of the items of a sheet, one after the other. Assumes nothing.
-use mathlib.Core.Path.{◌≡◌, refl, sym, ap, ap₂, subst, ◌∙◌}
+use mathlib.Core.Path.{◌≡◌, refl, sym, ap, ◌∙◌}
 use mathlib.Core.Bool.{Bool, true, false, cond}
 use mathlib.Core.List.{List, [], ◌∷◌, ◌++◌, map, append_assoc, append-nil}
 use Prim.Native.Nat.{ℕ, zero, suc, ◌+◌, ◌-◌, ◌*◌, ◌≤◌, ◌<◌}
@@ -21,7 +21,6 @@ use Rattle.items.proofs.View.{item_number}
 use Rattle.items.proofs.Back.{row_back}
 use Rattle.reading.specs.Rules.{every}
 use Rattle.reading.specs.Reading.{read_refusal, following, items_in, sheet_read, nth_item, item_read}
-use Rattle.reading.specs.declared.SheetRead.{SheetRead}
 use Rattle.reading.specs.declared.SheetRead.TheVariants.{NotRead, Lines}
 use Rattle.reading.specs.declared.ItemRead.TheVariants.{RefusedItem}
 use Rattle.reading.proofs.Answers.{accepted_view, body_items, small_following}

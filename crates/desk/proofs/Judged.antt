@@ -13,12 +13,10 @@ use Rattle.lists.specs.Table.{table}
 use Rattle.lists.proofs.Table.{length_table, table_same}
 use Rattle.game.specs.declared.Situation.{Situation}
 use Rattle.refusals.specs.Refusals.{refusal_of}
-use Rattle.decision.specs.Decision.{decision_of}
 use Rattle.replies.specs.Replies.{fault_line, refused_line, line_in, written_in}
 use Rattle.replies.proofs.Places.{line_known}
 use Rattle.call.proofs.Answers as Sheets
 use Rattle.coach.proofs.Answers as Coach
-use Rattle.sheet.specs.Sheet.{text_of}
 use Rattle.sheet.specs.declared.text.SheetAnswer.{SheetAnswer}
 use Rattle.sheet.specs.declared.text.SheetAnswer.TheVariants.{Refused, Written}
 use Rattle.numbers.specs.Numbers.{numbers_of, stored}

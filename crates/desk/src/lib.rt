@@ -67,7 +67,6 @@ fn judge_situation<'a>(
 }
 
 // The same of a situation as numbers, of which nx are earlier x and ny earlier y.
-#[tactic(auto, unfolding(crate::specs::Desk::numbers_printed))]
 fn judge_numbers(wanted: Wanted, numbers: &[u32], nx: usize, ny: usize, out: &mut [u8]) -> Reply
     requires { (nx ≤ most_places) × (ny ≤ most_places) × (numbers_for nx ny ≤ length numbers.now) }
     ensures value { result ≡ Spec.reply_in (Spec.numbers_printed wanted numbers.now nx ny (length out.old)) out.old }

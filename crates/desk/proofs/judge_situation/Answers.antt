@@ -1,5 +1,5 @@
 -- The refusal's line stands where the sheet would; a sheet stays as it was written.
-use Rattle.std.proofs.Common.{refl, sym, ap, ◌∙◌}
+use Rattle.std.proofs.Common.{refl, ap}
 use Rattle.sheet.specs.declared.text.SheetAnswer.TheVariants.{Refused, Written}
 use Rattle.desk.specs.declared.Reply.TheVariants.{Told}
 use Rattle.desk.proofs.Judged.{reply_printed}

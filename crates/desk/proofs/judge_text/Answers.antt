@@ -11,11 +11,11 @@ judge_numbers-requires c =
 pub returns-in-Read : goal.returns-in-Read
 returns-in-Read c =
     let p = prints_as _ _ c.args.out.now _ c.judge_numbers.result (judged_read c.args.wanted c.args.text.now _ _ _ (length c.args.out.now) (sym c.in-Read.ensures.value) c.in-Read.ensures.numbers_after)
-      (c.judge_numbers.ensures.value, c.judge_numbers.ensures.out_after) in
+    (c.judge_numbers.ensures.value, c.judge_numbers.ensures.out_after) in
     record { value = p.0; out_after = p.1 }
 
 pub returns-in-Wrong : goal.returns-in-Wrong
 returns-in-Wrong c =
     let p = prints_as _ _ c.args.out.now _ _ (judged_wrong c.args.wanted c.args.text.now _ _ _ (length c.args.out.now) (sym c.in-Wrong.ensures.value) c.in-Wrong.ensures.numbers_after)
-      (told_printed _ c.args.out.now _ _ c.fault_line.ensures.value c.fault_line.ensures.out_after) in
+    (told_printed _ c.args.out.now _ _ c.fault_line.ensures.value c.fault_line.ensures.out_after) in
     record { value = p.0; out_after = p.1 }

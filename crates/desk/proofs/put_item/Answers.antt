@@ -2,7 +2,7 @@
 use Rattle.std.proofs.Common.{ap, rules, ◌+◌, ℕ}
 use Rattle.lines.proofs.Over.{over_part}
 use Rattle.item_lines.specs.ItemLines.{item_line}
-use Rattle.desk.proofs.Items.{Fitted, line_fitted}
+use Rattle.desk.proofs.Items.{line_fitted}
 use Rattle.desk.proofs.put_item.Goals as goal
 
 pub overflow_add-result : goal.overflow_add-result

@@ -31,5 +31,5 @@ pub returns-in-Lines : goal.returns-in-Lines
 returns-in-Lines c =
     let lines = (taken c.args.text.now _ _ _ c.in-Lines.ensures c.put_items-n.ensures.value c.put_items-n.ensures.lines_after).1 in
     let p = prints_as _ _ c.args.out.now _ _ (read_lines c.args.text.now _ c.in-Lines.ensures).printed
-      (answer_said _ c.args.out.now _ _ (c.told.ensures.value ∙ ap (λ (t : List ℕ). written_in t c.args.out.now) lines) (c.told.ensures.out_after ∙ ap (λ (t : List ℕ). line_in t c.args.out.now) lines)) in
+    (answer_said _ c.args.out.now _ _ (c.told.ensures.value ∙ ap (λ (t : List ℕ). written_in t c.args.out.now) lines) (c.told.ensures.out_after ∙ ap (λ (t : List ℕ). line_in t c.args.out.now) lines)) in
     record { value = p.0; out_after = p.1 }
