@@ -1,4 +1,4 @@
-/* The entries of libreferee_c.a (`rt staticlib referee_c`). Contracts: crates/referee_c/src/lib.rt.
+/* The entries of libreferee_c.a (`tools/make referee_c`). Contracts: crates/referee_c/src/lib.rt.
  *
  * Units and axes. Lengths are metres, angles radians. The origin is the centre mark, x points to the left goal as the GameController shows it, z up, and y completes a
  * right-handed system. With REFEREE_SIDE_MAPPING_HOME_DEFENDS_LEFT_GOAL Home's own goal is at positive x.

@@ -23,7 +23,7 @@ fn main() {
     println!("cargo:rerun-if-changed=build.rs");
     let project = PathBuf::from(env::var_os("CARGO_MANIFEST_DIR").expect("cargo sets CARGO_MANIFEST_DIR"));
     let out = PathBuf::from(env::var_os("OUT_DIR").expect("cargo sets OUT_DIR"));
-    link(&folder(&project, "REFEREE_LIB_DIR", "../../target/staticlib"));
+    link(&folder(&project, "REFEREE_LIB_DIR", "../../crates/referee_c/out"));
     oracle(&folder(&project, "REFEREE_RUST_DIR", "../../../shared/docs/src"), &out);
 }
 
@@ -42,7 +42,7 @@ fn link(folder: &Path) {
     println!("cargo:rerun-if-changed={}", archive.display());
     if !archive.is_file() {
         panic!(
-            "{} is missing: run `rt staticlib referee_c` in the repository's root, or set REFEREE_LIB_DIR",
+            "{} is missing: run `tools/make referee_c` in the repository's root, or set REFEREE_LIB_DIR",
             archive.display()
         );
     }
