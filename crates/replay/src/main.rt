@@ -5,11 +5,11 @@
 // 0 and the refusal.
 #![tactic(auto)]
 
-mod lists;
-mod reading;
+mod one_record;
+mod queries;
 mod sheets;
 
-use reading::Outcome;
+use one_record::Outcome;
 use std::io;
 use std::io::Read;
 use std::num::wrapping_add_u64;
@@ -79,7 +79,7 @@ fn replay<R: Read>(rt: &impl Print, input: &mut R, buffer: &mut [u8]) -> io::Res
         if !t.open {
             return Ok(t);
         }
-        let outcome = reading::next(input, buffer)?;
+        let outcome = one_record::next(input, buffer)?;
         t = counted(rt, t, outcome)?;
         left -= 1;
     }

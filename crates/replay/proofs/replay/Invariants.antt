@@ -1,5 +1,4 @@
 -- The measure is how many records are left to read.
-use Rattle.std.proofs.Common.{◌≡◌, length}
 use Rattle.replay.proofs.replay.Given as goal
 
 abbrev pub decreases-loop-left : goal.decreases-loop-left

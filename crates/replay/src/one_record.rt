@@ -1,7 +1,7 @@
 // Reads one record and compares its answer.
 ghost use Rattle.std.specs.Prelude.{◌≤◌, length};
 
-use super::{lists, sheets};
+use super::{queries, sheets};
 use records::{Found, Record};
 use std::io;
 use std::io::Read;
@@ -19,7 +19,7 @@ pub(crate) enum Outcome {
 fn compared(kind: u32, lent: usize, input: &[u8], answer: &[u8]) -> Outcome {
     let same = match kind {
         1 => sheets::agrees(input, lent, answer),
-        2 => lists::agrees(input, lent, answer),
+        2 => queries::agrees(input, lent, answer),
         _ => return Outcome::Broken,
     };
     if same {
