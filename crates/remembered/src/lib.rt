@@ -76,6 +76,7 @@ fn returning_with(r: Remembered, returning: bool, return_allowance: MaybeAllowan
 }
 
 // Whether a player is returning from a penalty, and its allowance.
+#[tactic(auto, unfolding(crate::specs::Remembered::update_returning))]
 fn update_returning(field: FieldDimensions, player: Player, r: Remembered) -> Remembered
     ensures { result ≡ Spec.update_returning field player r }
 {
@@ -117,6 +118,7 @@ fn update_avoidance(
 }
 
 // What a frame makes of what is remembered of a player; `begun` tells that a set play has just begun.
+#[tactic(auto, unfolding(crate::specs::Remembered::framed_player, crate::specs::Remembered::update_returning))]
 fn framed_player(
     begun: bool,
     active: bool,
