@@ -87,6 +87,7 @@ fn first_failing(allowances: bool, places: bool, numbers: bool) -> u8
 }
 
 // The number of the first refusal of a memory and a touch, or 0 for none: 2 an allowance, 3 the ball or the kick place, 4 a player number, that of who touches the ball too.
+#[tactic(auto, unfolding(crate::specs::MemoryFits::memory_refusal))]
 pub fn memory_refusal(
     home: [Remembered; 20],
     away: [Remembered; 20],
