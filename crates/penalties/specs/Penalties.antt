@@ -1,5 +1,5 @@
 -- Who is penalised in a frame, as penalize_players and the method is_illegally_positioned. Definitions only.
-use Rattle.std.specs.Prelude.{Bool, true, false, not, cond, ◌&&◌, ◌||◌, List, ℕ, zero, suc, ltb, eqb, get_or}
+use Rattle.std.specs.Prelude.{Bool, false, not, cond, ◌&&◌, ◌||◌, List, ℕ, zero, suc, ltb, eqb, get_or}
 use Rattle.lists.specs.Table.{table}
 use Rattle.lists.specs.Fold.{fold_to}
 use Rattle.game.specs.Game as Game

@@ -134,6 +134,7 @@ fn judged_position(
 }
 
 // Asks one player: for leaving the field, then for its position. Who leaves or is in excess in its goal area is not asked for the verdict, and so is not named as the kicker.
+#[tactic(auto, unfolding(crate::specs::Penalties::asked_player))]
 fn asked_player(
     game: Game,
     field: FieldDimensions,
