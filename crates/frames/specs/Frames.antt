@@ -1,6 +1,6 @@
 -- Playing frames in a row: what is kept between frames, and what a frame and a touch of the ball make of it. Each part has the name of the function of the original that it is from, and `update` has
 -- them in the original's order. Definitions only.
-use Rattle.std.specs.Prelude.{Bool, true, false, not, cond, ◌&&◌, List, ◌∷◌, [], ℕ, ◌≡◌, eqb, ltb, replicate, Float}
+use Rattle.std.specs.Prelude.{Bool, true, false, not, cond, ◌&&◌, List, ℕ, ◌≡◌, eqb, ltb, replicate, Float}
 use Rattle.lists.specs.Refusals.{Requirement, first_refusal}
 use Rattle.floats.specs.Arithmetic.{zero32}
 use Rattle.game.specs.Game.{is_shootout, is_set}
@@ -11,7 +11,7 @@ use Rattle.game.specs.declared.Game.{Game}
 use Rattle.game.specs.declared.MaybeNumber.{MaybeNumber}
 use Rattle.game.specs.declared.MaybeNumber.TheVariants.{NoNumber, Number}
 use Rattle.game.specs.declared.MaybeRestart.{MaybeRestart}
-use Rattle.game.specs.declared.MaybeRestart.TheVariants.{NoRestart, InEffect}
+use Rattle.game.specs.declared.MaybeRestart.TheVariants.{NoRestart}
 use Rattle.game.specs.declared.MaybeSide.{MaybeSide}
 use Rattle.game.specs.declared.MaybeSide.TheVariants.{NoSide, Of}
 use Rattle.game.specs.declared.PlayerMargins.{PlayerMargins}
@@ -21,23 +21,21 @@ use Rattle.game.specs.declared.Side.{Side}
 use Rattle.game.specs.declared.Side.TheVariants.{Home, Away}
 use Rattle.game.specs.declared.SideDecision.{SideDecision}
 use Rattle.game.specs.declared.Situation.{Situation}
-use Rattle.game.specs.declared.Team.{Team}
 use Rattle.positioning.specs.Positioning.{is_set_play}
 use Rattle.counts.specs.Counts.{players_on_field}
 use Rattle.kicker.specs.Kicker.{determine_kicking_player}
-use Rattle.refusals.specs.Refusals.{field_fits, poses_fit, ball_fits, numbers_fit, number_fits, restart_fits, distance_fits, five}
+use Rattle.refusals.specs.Refusals.{field_fits, poses_fit, ball_fits, numbers_fit, distance_fits, five}
 use Rattle.decision.specs.Decision.{side_margins, decision_of, empty_decision}
 use Rattle.restarts.specs.Restarts.{touched_restart, observed_restart, tracked_restart}
 use Rattle.restarts.specs.declared.TouchCall.{TouchCall}
 use Rattle.restarts.specs.declared.TouchCall.TheVariants as touch
 use Rattle.restarts.specs.declared.TouchedRestart.{TouchedRestart}
-use Rattle.remembered.specs.Remembered as Remembered
+use Rattle.remembered.specs.Remembered as Kept
 use Rattle.remembered.specs.Remembered.{nothing, observe_players, returning_players, avoidance_players, judged_team, last_seen_team}
 use Rattle.remembered.specs.declared.Remembered.{Remembered}
 use Rattle.penalties.specs.Penalties as Penalties
 use Rattle.penalties.specs.Penalties.{inside_players}
 use Rattle.penalties.specs.declared.PlayerCall.TheVariants as player
-use Rattle.penalties.specs.declared.Called.{Called}
 use Rattle.penalties.specs.declared.Penalized.{Penalized}
 use Rattle.memory_fits.specs.MemoryFits.{allowances_fit, kick_fits, memory_numbers_fit}
 use Rattle.frames.specs.declared.Memory.{Memory}
@@ -149,7 +147,7 @@ observe s e m =
 
 -- ---- the parts of `update`
 unfoldable pub detect_movement : Situation → Memory → Memory
-detect_movement s m = with_players (λ side l. Remembered.detect_movement (team_of s side) l) m
+detect_movement s m = with_players (λ side l. Kept.detect_movement (team_of s side) l) m
 
 unfoldable pub track_ball : Situation → Memory → Memory
 track_ball s m = record { home = m.home; away = m.away; kicking_player = m.kicking_player; restart = tracked_restart m.restart s.ball; ball = s.ball }

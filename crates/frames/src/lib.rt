@@ -162,6 +162,7 @@ fn kicker_in_set(
 }
 
 // The kicking player after the changes of the game.
+#[tactic(auto, unfolding(crate::specs::Frames::observed_kicker))]
 fn observed_kicker(
     s: Situation,
     begun: bool,
@@ -186,6 +187,7 @@ fn observed_kicker(
 }
 
 // The memory after the changes of the game and the frame's poses and ball, up to penalize_players.
+#[tactic(auto, unfolding(crate::specs::Frames::update, crate::specs::Frames::update_avoidance, crate::specs::Frames::update_returning, crate::specs::Frames::track_ball, crate::specs::Frames::detect_movement, crate::specs::Frames::observe, remembered::specs::Remembered::framed_players))]
 fn updated(
     memory: Memory,
     s: Situation,
@@ -255,6 +257,7 @@ fn contact_by(touch: Touch, last_contact: MaybeSide) -> MaybeSide
 }
 
 // The frame as it is judged, by the memory as it is before penalize_players.
+#[tactic(auto, unfolding(crate::specs::Frames::judged_frame))]
 fn judged_frame(s: Situation, touch: Touch, memory: Memory) -> Situation
     ensures { result ≡ Spec.judged_frame s touch memory }
 {
@@ -287,6 +290,7 @@ fn judged_frame(s: Situation, touch: Touch, memory: Memory) -> Situation
 }
 
 // Penalises the players of both sides, Home first, by the decision on the frame as it is judged. The first side may name the kicking player.
+#[tactic(auto, unfolding(crate::specs::Frames::penalize_players, crate::specs::Frames::penalize_side))]
 fn penalized(
     judged: Situation,
     grace_over: bool,
@@ -343,6 +347,7 @@ fn penalized(
 
 impl Memory {
     // The memory with which the original begins.
+    #[tactic(auto, unfolding(crate::specs::Frames::new_memory))]
     pub fn new() -> Memory
         ensures { result ≡ Spec.new_memory }
     {
@@ -372,6 +377,7 @@ impl Memory {
     }
 
     // A touch of the ball, as ball_contact: against the frame's own game, with the ball and the present players of the last frame. One that goes on changes nothing here.
+    #[tactic(auto, unfolding(crate::specs::Frames::ball_contact))]
     pub fn touch(self, s: Situation, touch: Touch) -> Touched
         ensures { result ≡ Spec.ball_contact touch s self }
     {
@@ -409,6 +415,7 @@ impl Memory {
     }
 
     // A frame after its touch, as update up to penalize_players; what the touch called is handed on.
+    #[tactic(auto, unfolding(crate::specs::Frames::frame_of))]
     pub fn frame<'a>(
         self,
         s: Situation,
@@ -493,6 +500,7 @@ fn step_refusal<'a>(
 }
 
 // Nobody is called.
+#[tactic(auto, unfolding(crate::specs::Frames::no_calls))]
 fn no_calls() -> Calls
     ensures { result ≡ Spec.no_calls }
 {
@@ -508,6 +516,7 @@ fn no_calls() -> Calls
 }
 
 // Plays one frame, a step: the touch, then the frame. A refusal keeps the memory as it came in.
+#[tactic(auto, unfolding(crate::specs::Frames::step_of, crate::specs::Frames::played_frame))]
 pub fn play<'a>(memory: Memory, s: Situation, events: Events, xs: &'a [f32], ys: &'a [f32]) -> Step
     ensures { result ≡ Spec.step_of memory s events xs.now ys.now }
 {
