@@ -1,6 +1,6 @@
 -- What the tests of a call's words come to. Assumes nothing.
 use mathlib.Core.Path.{◌≡◌, refl, sym, ap, ◌∙◌}
-use mathlib.Core.Bool.{Bool, false, ◌&&◌, cond}
+use mathlib.Core.Bool.{Bool, true, false, ◌&&◌, cond}
 use mathlib.Core.List.{List}
 use Prim.Native.Nat.{ℕ, zero, suc, ◌≤◌, ◌<◌}
 use native.Mathlib.Nat.{le_of_suc-le-suc, not-suc-le-zero}
@@ -32,6 +32,13 @@ module _ (word name : List ℕ) where
 
 -- ---- a word
 module _ (word : List ℕ) where
+  -- it is this name, or another: what is then told
+  pub this_name : (name : List ℕ) (b : Bool) (x y : MaybeCommand) → b ≡ is_word word name → b ≡ true → x ≡ cond (is_word word name) x y
+  this_name name b x y e h = ap (λ (t : Bool). cond t x y) (sym h ∙ e)
+
+  pub other_name : (name : List ℕ) (b : Bool) (x y r : MaybeCommand) → b ≡ is_word word name → b ≡ false → r ≡ y → r ≡ cond (is_word word name) x y
+  other_name name b x y r e h p = p ∙ ap (λ (t : Bool). cond t x y) (sym h ∙ e)
+
   pub from_file : (file : Source) (b t : Bool) → b ≡ is_word word dash → b ≡ t → cond t StandardInput file ≡ source_of word file
   unfolding source_of
   from_file file b t e f = ap (λ (d : Bool). cond d StandardInput file) (sym f ∙ e)

@@ -9,7 +9,7 @@ use native.Mathlib.Omega.{arith}
 use borrow.Author.Tests.{ltb-true, ltb-false}
 use lib.Dec.{ltb}
 use lib.ListN.{length, take, drop, set, get_or, length-append, length-take, length-drop}
-use lib.Seq.{take_at}
+use lib.Seq.{take_at, take-length}
 use Rattle.lists.specs.Gather.{flat_to}
 use Rattle.lists.specs.Put.{fronted, fronted_into}
 use Rattle.lists.proofs.Bools.{by_test}
@@ -243,9 +243,22 @@ module _ (s : Situation) (cur : List ℕ) (end : ℕ) (w : AllWritten s cur end)
       (text_short [] 8 (sentences_of s) refl refl (length text) short, sym (into_short (sentences_of s) text short))
 
   -- it is not, and they were copied
-  pub all_copied : (text part : List ℕ) → end ≤ length text → part ≡ take end cur → (Written end ≡ line_answer (sentences_of s) (length text)) × (part ++ drop end text ≡ fronted_into (sentences_of s) text)
+  pub all_copied : (text next : List ℕ) (n : ℕ) → end ≤ length text → n ≡ length (take end cur) → next ≡ take (length (take end cur)) (take end cur) ++ drop (length (take end cur)) text
+      → (Written n ≡ line_answer (sentences_of s) (length text)) × (next ≡ fronted_into (sentences_of s) text)
   unfolding fronted
-  all_copied text part h e =
+  all_copied text next n h z e =
+      let fits : length (sentences_of s) ≤ length text = omega (arith, w.far) in (
+        ap Written (z ∙ ap length w.front) ∙ text_fits [] 8 (sentences_of s) refl refl (length text) fits,
+        e
+            ∙ ap (λ (t : List ℕ). take (length t) t ++ drop (length t) text) w.front
+            ∙ ap (λ (t : List ℕ). t ++ drop (length (sentences_of s)) text) (take-length (sentences_of s))
+            ∙ sym (into_fits (sentences_of s) text fits),
+      )
+
+  -- the same where they were copied into the part of that length
+  pub all_stored : (text part : List ℕ) → end ≤ length text → part ≡ take end cur → (Written end ≡ line_answer (sentences_of s) (length text)) × (part ++ drop end text ≡ fronted_into (sentences_of s) text)
+  unfolding fronted
+  all_stored text part h e =
       let fits : length (sentences_of s) ≤ length text = omega (arith, w.far) in (
         ap Written w.far ∙ text_fits [] 8 (sentences_of s) refl refl (length text) fits,
         ap (λ (t : List ℕ). t ++ drop end text) (e ∙ w.front)

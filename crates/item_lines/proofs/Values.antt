@@ -2,7 +2,7 @@
 use mathlib.Core.Path.{◌≡◌, sym, ap, ◌∙◌}
 use mathlib.Core.List.{[], ◌∷◌, ◌++◌, append_assoc}
 use Prim.Native.Nat.{ℕ, ◌+◌, ◌-◌, ◌*◌, ◌/◌, ◌%◌, ◌^◌, ◌≤◌, ◌<◌}
-use native.Mathlib.Nat.{div-eq_of_lt, div-div-eq-div-mul, add-div_right, pow-suc, one-le-pow, pow-le-pow_right}
+use native.Mathlib.Nat.{div-eq_of_lt, div-le_self, div-div-eq-div-mul, add-div_right, pow-suc, one-le-pow, pow-le-pow_right}
 use native.Mathlib.Numerals.{add-one}
 use native.Mathlib.Omega.{arith}
 use borrow.Author.Tests.{lt-ltb, le-ltb, eq-eqb, ne_eqb}
@@ -54,6 +54,10 @@ unfolding millionths
 millionths_some p m s e f =
     let same : m * 2000000 ≡ 2 * m * 1000000 = omega arith in
     simp (← e, ← f) (ap (λ (a : ℕ). (a / 2 ^ s + 1) / 2) same ∙ halved (2 * m * 1000000) s)
+
+-- the sum before the last division is small
+pub quotient_small : (m s : ℕ) → m < 0x100_0000 → m * 2000000 / 2 ^ s + 1 < 2 ^ 64
+quotient_small m s h = omega (arith, div-le_self (m * 2000000) (2 ^ s))
 
 -- ---- the texts
 pub sign_none : (p : ℕ) → p < 0x8000_0000 → [] ≡ sign_text p

@@ -1,3 +1,4 @@
+mod ByKind
 pub mod View
 pub mod Placed
 pub mod Back

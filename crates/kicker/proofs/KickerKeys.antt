@@ -3,7 +3,7 @@ use mathlib.Core.Path.{◌≡◌, refl, sym, ap, subst, ◌∙◌}
 use mathlib.Core.Bool.{Bool, true, true≢false, ◌&&◌, cond}
 use mathlib.Core.List.{List}
 use mathlib.Core.Logic.{⊎_elim}
-use Prim.Native.Nat.{ℕ, ◌+◌, ◌%◌, ◌≤◌, ◌<◌}
+use Prim.Native.Nat.{ℕ, ◌+◌, ◌*◌, ◌%◌, ◌≤◌, ◌<◌}
 use native.Mathlib.Omega.{arith}
 use lib.Dec.{ltb, eqb}
 use lib.Ieee.{Float}
@@ -41,6 +41,18 @@ key_order NoDistance e i j l m s t = absurd (true≢false (sym s))
 key_order (At d) NoDistance i j l m s t = absurd (true≢false (sym t))
 key_order (At d) (At e) i j l m s t =
     lexical (distance_key (At d) i) (distance_key (At e) j) (order_of (At d)) (order_of (At e)) i j (λ h. omega arith) (λ h. omega arith) (λ h k. omega arith) (λ h k. omega arith)
+
+-- ---- the key of a player, as the code makes it
+-- who may not kick has none
+pub no_key_holds : (d : Distance) (i : ℕ) → d ≡ NoDistance → (no_key ≡ distance_key d i) × Small d
+no_key_holds d i e = (sym (ap (λ (x : Distance). distance_key x i) e), λ (t : qualifies d ≡ true). absurd (true≢false (sym t ∙ ap qualifies e)))
+
+-- and who may has that of its distance
+pub its_key : (d : Distance) (metres : Float) (x i : ℕ) → d ≡ At metres → x ≡ order_of (At metres) → x < 0x1_0000_0000 → (x * 32 + (i + 1) ≡ distance_key d i) × Small d
+its_key d metres x i e o h = (
+  ap (λ (y : ℕ). y * 32 + (i + 1)) o ∙ sym (ap (λ (y : Distance). distance_key y i) e),
+  λ t. subst (λ (y : Distance). order_of y < 0x1_0000_0000) (sym e) (subst (λ (k : ℕ). k < 0x1_0000_0000) o h),
+)
 
 -- ---- the keys of a team
 module _ (s : SetPlay) (field : FieldDimensions) (sign : Float) (team : Team) (margins : List PlayerMargins)

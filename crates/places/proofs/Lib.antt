@@ -1,3 +1,4 @@
+pub mod Others
 pub mod Signs
 pub mod Turned
 pub mod Bounds

@@ -2,13 +2,15 @@
 use mathlib.Core.Path.{◌≡◌, refl, sym, ap, ap₂, ◌∙◌}
 use mathlib.Core.Bool.{Bool, true, false, not, ◌&&◌, ◌||◌, cond, true≢false}
 use mathlib.Core.List.{List, [], ◌∷◌, map}
-use Prim.Native.Nat.{ℕ, zero, suc, ◌+◌, ◌/◌, ◌%◌, ◌≤◌, ◌<◌}
+use Prim.Native.Nat.{ℕ, zero, suc, ◌+◌, ◌*◌, ◌/◌, ◌%◌, ◌^◌, ◌≤◌, ◌<◌}
+use native.Mathlib.Nat.{one-mul, mod-eq_of_lt}
 use native.Mathlib.Numerals.{add-one}
 use native.Mathlib.Omega.{arith}
 use borrow.Author.Tests.{eqb-true, eq-eqb, ne_eqb}
 use lib.Dec.{eqb}
 use lib.ListN.{length, drop, length-take, drop_of_length-le}
 use lib.Seq.{drop-cons}
+use lib.Pow.{pow-lt}
 use Rattle.lists.specs.Every.{every_to}
 use Rattle.lists.specs.Table.{table}
 use Rattle.lists.proofs.Bools.{both_true, same_test}
@@ -22,10 +24,14 @@ use Rattle.items.specs.Items.{is_item}
 use Rattle.items.proofs.View.{item_number}
 use Rattle.reading.specs.Rules.{not_before, is_body, is_header, is_sheet}
 use Rattle.reading.specs.Reading.{counted}
-use Rattle.reading.specs.Walk.{linked, fits_after, seen_after, opens, after_line, next, lines_in, walked, broken, whole, counted_by, accepts}
+use Rattle.reading.specs.Walk.{linked, fits_after, seen_after, ends, opens, after_line, next, lines_in, walked, broken, whole, counted_by, accepts}
 use Rattle.reading.specs.declared.Walk.{Walk}
 use Rattle.reading.specs.declared.Walk.TheVariants.{NotLines, Breach, Start, After}
 use Rattle.reading.proofs.Accepts.{accepts_body}
+
+-- the flag of a player's number fits a word
+pub one_flag : (n : ℕ) → n ≤ 20 → 1 * 2 ^ n % 4294967296 ≡ 2 ^ n
+one_flag n h = ap (λ (k : ℕ). k % 4294967296) (one-mul (2 ^ n)) ∙ mod-eq_of_lt (pow-lt {i = n} {j = 32} (omega arith))
 
 -- a line that fits has a number up to 20
 pub fits_number : (l : Row) (seen : ℕ) (r : Row) → fits_after l seen r ≡ true → r.number ≤ 20

@@ -2,11 +2,15 @@
 use mathlib.Core.Path.{◌≡◌, refl, ap, sym, ◌∙◌}
 use mathlib.Core.Bool.{Bool, true, false, ◌&&◌, cond}
 use mathlib.Core.List.{List, [], ◌∷◌}
-use Prim.Native.Nat.{ℕ, ◌+◌, ◌-◌, ◌≤◌, ◌<◌}
+use Prim.Native.Nat.{ℕ, zero, suc, ◌+◌, ◌-◌, ◌≤◌, ◌<◌}
+use native.Mathlib.Nat.{not-suc-le-zero, le_of_suc-le-suc}
 use native.Mathlib.Omega.{arith}
 use borrow.Author.Tests.{ltb-false, lt-ltb, le-ltb}
 use lib.Dec.{eqb, ltb}
+use types.Run.{OneOf, miss}
+use denote.Enum.Declared.{tag_of}
 use lib.ListN.{length, take, drop, get_or}
+use Rattle.numbers.specs.contracts.Reading as Readings
 use Rattle.numbers.specs.declared.Reading.{Reading}
 use Rattle.numbers.specs.declared.Reading.TheVariants.{Read, NotANumber, TooLarge}
 use Rattle.numbers.specs.Numbers.{numbers_of, reading_of, stored}
@@ -14,6 +18,12 @@ use Rattle.records.specs.declared.Record.{Record}
 use Rattle.records.specs.declared.Found.{Found}
 use Rattle.records.specs.declared.Found.TheVariants.{Broken, Whole}
 use Rattle.records.specs.Records.{line_at, head_at, is_head, framed, record_at}
+
+-- an element that is there, whatever stands for one that is not
+pub either_default : (l : List ℕ) (i d e : ℕ) → i < length l → get_or l i d ≡ get_or l i e
+either_default [] i d e h = absurd (not-suc-le-zero h)
+either_default (x ∷ l) zero d e h = refl
+either_default (x ∷ l) (suc i) d e h = either_default l i d e (le_of_suc-le-suc h)
 
 -- ---- a head
 -- one that says more bytes than there are
@@ -29,10 +39,15 @@ framed_whole size input k n m head ek en em h =
     simp (ek, en, em, le-ltb (size - input) (get_or head 2 0 + get_or head 3 0) (rw (en, em) at h))
 
 -- ---- a reading with a fault is no head
-faulty : (g : Reading) (last : ℕ) → ((n : ℕ) → g ≡ Read n → ⊥) → false ≡ is_head g last
-faulty (Read n) last h = absurd (h n refl)
+faulty : (g : Reading) (last : ℕ) → OneOf (1 ∷ 2 ∷ []) (tag_of Readings.the_type g) → false ≡ is_head g last
+faulty (Read n) last h = absurd (miss (1 ∷ 2 ∷ []) 0 tt h)
 faulty (NotANumber k) last h = refl
 faulty (TooLarge k) last h = refl
+
+unread : (g : Reading) (last : ℕ) → ((n : ℕ) → g ≡ Read n → ⊥) → false ≡ is_head g last
+unread (Read n) last h = absurd (h n refl)
+unread (NotANumber k) last h = refl
+unread (TooLarge k) last h = refl
 
 -- ---- a place with 45 bytes or more after it, whose line has the reading g
 long : (at : ℕ) → at + 45 - at ≡ 45
@@ -43,8 +58,11 @@ module _ (list : List ℕ) (at : ℕ) (g : Reading) (enough : 45 ≤ length list
   unfolding record_at
   by_head b tested = simp (le-ltb (length list - at) 45 enough, tested, read, long)
 
-  pub at_fault : ((n : ℕ) → g ≡ Read n → ⊥) → Broken ≡ record_at list at
+  pub at_fault : OneOf (1 ∷ 2 ∷ []) (tag_of Readings.the_type g) → Broken ≡ record_at list at
   at_fault h = sym (by_head false (faulty g (get_or list (at + 44) 0) h))
+
+  pub at_unread : ((n : ℕ) → g ≡ Read n → ⊥) → Broken ≡ record_at list at
+  at_unread h = sym (by_head false (unread g (get_or list (at + 44) 0) h))
 
   -- n numbers were read: b tells whether they are four and a line feed is the last byte
   module _ (n : ℕ) (told : g ≡ Read n) where

@@ -1,17 +1,24 @@
 -- A text written piece by piece at the front of lent bytes. Assumes nothing.
 use mathlib.Core.Path.{◌≡◌, sym, ap, subst, ◌∙◌}
-use mathlib.Core.List.{List, ◌++◌}
-use Prim.Native.Nat.{ℕ, ◌+◌, ◌≤◌, ◌<◌}
+use mathlib.Core.List.{List, [], ◌∷◌, ◌++◌, append_assoc}
+use Prim.Native.Nat.{ℕ, ◌+◌, ◌-◌, ◌≤◌, ◌<◌}
 use native.Mathlib.Nat.{zero-add}
 use native.Mathlib.Omega.{arith}
 use borrow.Author.Tests.{lt-ltb, le-ltb}
+use lib.Dec.{ltb}
 use lib.ListN.{length, take, drop, length-append, length-take, length-drop, replicate, length-replicate}
-use lib.Seq.{take_at}
+use lib.Seq.{take-length, take_at}
 use Rattle.lists.specs.Put.{fronted}
 use Rattle.lists.proofs.Fronted.{into_short, into_fits}
 use Rattle.lines.specs.Over.{over}
-use Rattle.lines.proofs.Over.{over_front, Stage, stage_next}
+use Rattle.lines.proofs.Over.{over_front, over_part, Stage, stage_next}
 use Rattle.replies.specs.Replies.{line_in, written_in}
+
+-- what a copy into the part from a place on leaves
+pub piece_over : (xs l ys : List ℕ) (at : ℕ) → ys ≡ take (length l) l ++ drop (length l) (take (length xs - at) (drop at xs))
+    → take at xs ++ (ys ++ drop (length xs - at) (drop at xs)) ≡ over at l xs
+unfolding fronted
+piece_over xs l ys at e = over_part xs l ys at (e ∙ ap (λ (t : List ℕ). t ++ drop (length l) (take (length xs - at) (drop at xs))) (take-length l))
 
 -- where there is no room
 pub text_short : (text s : List ℕ) → length s < length text → (0 ≡ written_in text s) × (s ≡ line_in text s)

@@ -4,7 +4,7 @@ use Rattle.std.proofs.lemmas.List.{length-replicate, length-take-le}
 use Rattle.game.specs.declared.Side.TheVariants.{Home, Away}
 use Rattle.coach.specs.Coach.{sentences_of}
 use Rattle.coach.proofs.Answers.{text_refused, text_told}
-use Rattle.coach.proofs.Lines.{side_few, all_written, all_short_holds, all_copied}
+use Rattle.coach.proofs.Lines.{side_few, all_written, all_short_holds, all_stored}
 use Rattle.sheet.specs.declared.text.SheetAnswer.TheVariants.{Refused, Written}
 use Rattle.coach.proofs.write_sentences.Goals as goal
 
@@ -47,6 +47,6 @@ returns c =
     let second = c.side_sentences-end in
     let all = all_written c.args.s _ _ c.side_conditions-home.ensures c.side_conditions-away.ensures (replicate 3000 0) _ _ first.result second.result (length-replicate {A = ℕ} 3000 0) first.ensures.lines_after first.ensures.value first.auto.lines
     second.ensures.lines_after second.ensures.value second.auto.lines in
-    let text = all_copied c.args.s _ second.result all c.args.text.now c.copy_from_slice.new.self c.if-text-end.false c.copy_from_slice.ensures.after in
+    let text = all_stored c.args.s _ second.result all c.args.text.now c.copy_from_slice.new.self c.if-text-end.false c.copy_from_slice.ensures.after in
     let r = text_told c.args.refusal (sentences_of c.args.s) c.args.text.now (Written second.result) _ c.if-refusal-ne0.false text.0 text.1 in
     record { value = r.0; text_after = r.1 }

@@ -1,7 +1,7 @@
 use Rattle.std.proofs.Common.{◌-◌, length, arith}
 use borrow.Author.Tests.{lt-ltb}
 use Rattle.records.specs.Records.{record_at}
-use Rattle.records.proofs.Lying.{at_head, at_no_head, at_fault}
+use Rattle.records.proofs.Lying.{at_head, at_no_head, at_unread}
 use Rattle.records.proofs.record_at.Goals as goal
 
 pub returns-then-list-at : goal.returns-then-list-at
@@ -13,7 +13,7 @@ unfolding record_at
 returns-then-list-at-lt45 c = simp (lt-ltb _ _ c.if-list-at-lt45.true)
 
 pub returns-in_default : goal.returns-in_default
-returns-in_default c = at_fault _ _ c.read_numbers-reading.result c.if-list-at-lt45.false c.read_numbers-reading.ensures.value c.in_default.not-Read
+returns-in_default c = at_unread _ _ c.read_numbers-reading.result c.if-list-at-lt45.false c.read_numbers-reading.ensures.value c.in_default.not-Read
 
 pub returns-then-n-list : goal.returns-then-n-list
 returns-then-n-list c =
