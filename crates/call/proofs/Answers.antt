@@ -1,7 +1,7 @@
 -- What the call answers and leaves: the list of refusals goes on with 12, and then with 7, only where the situation itself is not refused. Assumes nothing.
-use mathlib.Core.Path.{◌≡◌, refl, sym, ap, ◌∙◌}
+use mathlib.Core.Path.{◌≡◌, refl, sym, ap, subst, ◌∙◌}
 use mathlib.Core.Bool.{Bool, true, false, cond}
-use mathlib.Core.List.{List, [], ◌∷◌, ◌++◌}
+use mathlib.Core.List.{List, [], ◌∷◌, ◌++◌, map}
 use Prim.Native.Nat.{ℕ, ◌≤◌}
 use native.Mathlib.Omega.{arith}
 use borrow.Author.Tests.{eq-eqb, ne_eqb}
@@ -19,9 +19,9 @@ use Rattle.sheet.specs.Rows.{rows_of}
 use Rattle.sheet.specs.Sheet.{bytes_in, text_of, decision_answer, decision_sheet}
 use Rattle.sheet.specs.declared.text.SheetAnswer.{SheetAnswer}
 use Rattle.sheet.specs.declared.text.SheetAnswer.TheVariants.{Refused, Written}
-use Rattle.sheet.proofs.Texts.{answer_by, after_by, call_refused, call_accepted, call_room}
+use Rattle.sheet.proofs.Texts.{call_answer, call_after, answer_by, after_by, call_refused, call_accepted, call_room}
 use Rattle.call.specs.declared.SheetFor.{SheetFor}
-use Rattle.call.specs.Call.{shows, lines_for, sheet_answer, sheet_after}
+use Rattle.call.specs.Call.{shows, lines_for, call_requirements, sheet_answer, sheet_after}
 
 module _ (to : SheetFor) (s : Situation) (xs ys : List Float) where
   -- the first of 1 to 5 and 12, or 0
@@ -44,25 +44,37 @@ module _ (to : SheetFor) (s : Situation) (xs ys : List Float) where
   unfolding refusal_of
   first_told = refusal_append (requirements_of s xs ys) (lines_for to (decision_of s xs ys) ∷ []) five_numbered
 
+  -- the refusals in their order
+  in_order : (lent : ℕ) → map (λ (r : Requirement). r.number) (call_requirements to s xs ys lent) ≡ 1 ∷ 2 ∷ 3 ∷ 4 ∷ 5 ∷ 12 ∷ 7 ∷ []
+  unfolding requirements_of
+  in_order lent = refl
+
+  -- answer and bytes are those of the list before 7, and 7 after it
+  answer_as : (lent : ℕ) → sheet_answer to s xs ys lent ≡ call_answer before_room 7 (text_of (decision_of s xs ys)) lent
+  unfolding sheet_answer requirements_of
+  answer_as lent = let order = in_order lent in refl
+
+  after_as : (sheet : List ℕ) → sheet_after to s xs ys sheet ≡ call_after before_room 7 (text_of (decision_of s xs ys)) sheet
+  unfolding sheet_after requirements_of
+  after_as sheet = let order = in_order (length sheet) in refl
+
   -- the answer, by whether 1 to 5 or 12 refuses, and by the test of the lent bytes
   pub answer_cases : (lent : ℕ) → sheet_answer to s xs ys lent
       ≡ cond (eqb refusal_for 0) (cond (ltb lent (length (text_of (decision_of s xs ys)))) (Refused 7) (Written (length (text_of (decision_of s xs ys))))) (Refused refusal_for)
-  unfolding sheet_answer requirements_of
   answer_cases lent =
       let text = text_of (decision_of s xs ys) in
-      answer_by before_room 7 text numbered refl lent ∙ ap (λ (n : ℕ). cond (eqb n 0) (cond (ltb lent (length text)) (Refused 7) (Written (length text))) (Refused n)) first_told
+      answer_as lent ∙ answer_by before_room 7 text numbered refl lent ∙ ap (λ (n : ℕ). cond (eqb n 0) (cond (ltb lent (length text)) (Refused 7) (Written (length text))) (Refused n)) first_told
 
   -- the bytes
   pub after_told : (sheet : List ℕ) → sheet_after to s xs ys sheet ≡ cond (eqb refusal_for 0) (decision_sheet (decision_of s xs ys) sheet) sheet
-  unfolding sheet_after requirements_of fronted_into
+  unfolding fronted_into
   after_told sheet =
       let text = text_of (decision_of s xs ys) in
-      after_by before_room 7 text numbered refl sheet ∙ ap (λ (n : ℕ). cond (eqb n 0) (decision_sheet (decision_of s xs ys) sheet) sheet) first_told
+      after_as sheet ∙ after_by before_room 7 text numbered refl sheet ∙ ap (λ (n : ℕ). cond (eqb n 0) (decision_sheet (decision_of s xs ys) sheet) sheet) first_told
 
   -- no more bytes are written than were lent
   pub sheet_room : (lent : ℕ) → bytes_in (sheet_answer to s xs ys lent) ≤ lent
-  unfolding sheet_answer requirements_of
-  sheet_room lent = call_room before_room 7 (text_of (decision_of s xs ys)) numbered refl lent
+  sheet_room lent = subst (λ (a : SheetAnswer). bytes_in a ≤ lent) (sym (answer_as lent)) (call_room before_room 7 (text_of (decision_of s xs ys)) numbered refl lent)
 
   -- ---- the first of 1 to 5 and 12, case by case
   pub first_of_five : (refusal_of s xs ys ≡ 0 → ⊥) → refusal_for ≡ refusal_of s xs ys
@@ -80,8 +92,9 @@ module _ (to : SheetFor) (s : Situation) (xs ys : List Float) where
 
   -- ---- what the call answers and leaves where it is refused before 7
   pub refused_before : (n : ℕ) (sheet : List ℕ) → n ≡ refusal_for → (n ≡ 0 → ⊥) → (Refused n ≡ sheet_answer to s xs ys (length sheet)) × (sheet ≡ sheet_after to s xs ys sheet)
-  unfolding sheet_answer sheet_after requirements_of
-  refused_before n sheet e h = call_refused before_room 7 (text_of (decision_of s xs ys)) numbered refl n sheet (e ∙ sym first_told) h
+  refused_before n sheet e h =
+      let told = call_refused before_room 7 (text_of (decision_of s xs ys)) numbered refl n sheet (e ∙ sym first_told) h in
+      (told.0 ∙ sym (answer_as (length sheet)), told.1 ∙ sym (after_as sheet))
 
 -- ---- what the code leaves
 module _ (to : SheetFor) (s : Situation) (xs ys : List Float) (n : ℕ) (told : n ≡ refusal_of s xs ys) where
@@ -100,7 +113,8 @@ module _ (to : SheetFor) (s : Situation) (xs ys : List Float) (n : ℕ) (told : 
     -- they are not
     pub sheet_decided : (sheet next : List ℕ) (r : SheetAnswer) → shows to (length (rows_of d)) ≡ true → r ≡ decision_answer d (length sheet) → next ≡ decision_sheet d sheet
         → (r ≡ sheet_answer to s xs ys (length sheet)) × (next ≡ sheet_after to s xs ys sheet)
-    unfolding sheet_answer sheet_after requirements_of decision_answer
+    unfolding decision_answer
     sheet_decided sheet next r e p q =
-        call_accepted (before_room to s xs ys) 7 (text_of (decision_of s xs ys)) (numbered to s xs ys) refl (first_told to s xs ys ∙ none_refused to s xs ys (sym told ∙ h) (shown_as true e)) r sheet next
-        (p ∙ ap (λ (z : Decision). decision_answer z (length sheet)) decided) (q ∙ ap (λ (z : Decision). decision_sheet z sheet) decided)
+        let text = call_accepted (before_room to s xs ys) 7 (text_of (decision_of s xs ys)) (numbered to s xs ys) refl (first_told to s xs ys ∙ none_refused to s xs ys (sym told ∙ h) (shown_as true e)) r sheet next
+        (p ∙ ap (λ (z : Decision). decision_answer z (length sheet)) decided) (q ∙ ap (λ (z : Decision). decision_sheet z sheet) decided) in
+        (text.0 ∙ sym (answer_as to s xs ys (length sheet)), text.1 ∙ sym (after_as to s xs ys sheet))

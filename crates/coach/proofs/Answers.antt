@@ -1,7 +1,7 @@
 -- What the coach's calls answer and leave: their lists of refusals. Assumes nothing.
-use mathlib.Core.Path.{◌≡◌, refl, sym, ap, ◌∙◌}
+use mathlib.Core.Path.{◌≡◌, refl, sym, ap, subst, ◌∙◌}
 use mathlib.Core.Bool.{Bool, true, false, not, ◌&&◌, ◌||◌, cond}
-use mathlib.Core.List.{List, [], ◌∷◌, ◌++◌}
+use mathlib.Core.List.{List, [], ◌∷◌, ◌++◌, map}
 use Prim.Native.Nat.{ℕ, ◌≤◌}
 use native.Mathlib.Omega.{arith}
 use borrow.Author.Tests.{eq-eqb, ne_eqb, leb-true}
@@ -9,7 +9,7 @@ use lib.Dec.{eqb, leb, ltb}
 use lib.Ieee.{Float}
 use lib.ListN.{length, take, drop}
 use Rattle.lists.specs.Put.{fronted_into}
-use Rattle.lists.specs.Refusals.{first_refusal, all_numbered}
+use Rattle.lists.specs.Refusals.{Requirement, first_refusal, all_numbered}
 use Rattle.lists.proofs.Bools.{both_true}
 use Rattle.game.specs.Players.{min_number, max_number}
 use Rattle.game.specs.declared.Side.{Side}
@@ -18,8 +18,8 @@ use Rattle.refusals.specs.Refusals.{field_fits, poses_fit, ball_fits, numbers_fi
 use Rattle.sheet.specs.Sheet.{bytes_in}
 use Rattle.sheet.specs.declared.text.SheetAnswer.{SheetAnswer}
 use Rattle.sheet.specs.declared.text.SheetAnswer.TheVariants.{Refused, Written}
-use Rattle.sheet.proofs.Texts.{answer_by, after_by, call_room}
-use Rattle.coach.specs.Coach.{sentence_of, asked_requirements, sentence_answer, sentence_after, sentences_of, sentences_answer, sentences_after, line_answer, with_number, text_answer, text_after}
+use Rattle.sheet.proofs.Texts.{call_answer, call_after, answer_by, after_by, call_room}
+use Rattle.coach.specs.Coach.{sentence_of, asked_requirements, coach_requirements, sentence_answer, sentence_after, sentences_of, sentences_answer, sentences_after, line_answer, with_number, text_answer, text_after}
 
 -- ---- the number that is asked for among the situation's refusals
 -- 4 before 5
@@ -43,6 +43,20 @@ module _ (s : Situation) (xs ys : List Float) (n : ℕ) where
   asked_numbered : all_numbered (asked_requirements s xs ys n) ≡ true
   unfolding asked_requirements requirements_of
   asked_numbered = refl
+
+-- the refusals of the line on one player in their order; its answer and its bytes are those of the list before 8, and 8 after it
+module _ (s : Situation) (xs ys : List Float) (side : Side) (n : ℕ) where
+  in_order : (lent : ℕ) → map (λ (r : Requirement). r.number) (coach_requirements s xs ys side n lent) ≡ 1 ∷ 2 ∷ 3 ∷ 4 ∷ 4 ∷ 5 ∷ 8 ∷ []
+  unfolding asked_requirements requirements_of
+  in_order lent = refl
+
+  answer_as : (lent : ℕ) → sentence_answer s xs ys side n lent ≡ call_answer (asked_requirements s xs ys n) 8 (sentence_of s side n) lent
+  unfolding sentence_answer
+  answer_as lent = let order = in_order lent in refl
+
+  after_as : (text : List ℕ) → sentence_after s xs ys side n text ≡ call_after (asked_requirements s xs ys n) 8 (sentence_of s side n) text
+  unfolding sentence_after
+  after_as text = let order = in_order (length text) in refl
 
 numbered : (s : Situation) (xs ys : List Float) → all_numbered (requirements_of s xs ys) ≡ true
 unfolding requirements_of
@@ -86,13 +100,15 @@ module _ (s : Situation) (xs ys : List Float) (own : ℕ) (first : own ≡ refus
   asked n = ap (λ (k : ℕ). with_number k n) first ∙ sym (asked_first s xs ys n)
 
   pub sentence_answer_holds : (side : Side) (n lent : ℕ) → text_answer (with_number own n) (sentence_of s side n) lent ≡ sentence_answer s xs ys side n lent
-  unfolding sentence_answer
   sentence_answer_holds side n lent =
-      ap (λ (k : ℕ). text_answer k (sentence_of s side n) lent) (asked n) ∙ text_by (first_refusal (asked_requirements s xs ys n)) (sentence_of s side n) lent ∙ sym (answer_by (asked_requirements s xs ys n) 8 (sentence_of s side n) (asked_numbered s xs ys n) refl lent)
+      ap (λ (k : ℕ). text_answer k (sentence_of s side n) lent) (asked n)
+      ∙ text_by (first_refusal (asked_requirements s xs ys n)) (sentence_of s side n) lent
+      ∙ sym (answer_as s xs ys side n lent ∙ answer_by (asked_requirements s xs ys n) 8 (sentence_of s side n) (asked_numbered s xs ys n) refl lent)
 
   pub sentence_after_holds : (side : Side) (n : ℕ) (text : List ℕ) → text_after (with_number own n) (sentence_of s side n) text ≡ sentence_after s xs ys side n text
-  unfolding text_after sentence_after fronted_into
-  sentence_after_holds side n text = ap (λ (k : ℕ). text_after k (sentence_of s side n) text) (asked n) ∙ sym (after_by (asked_requirements s xs ys n) 8 (sentence_of s side n) (asked_numbered s xs ys n) refl text)
+  unfolding text_after fronted_into
+  sentence_after_holds side n text =
+      ap (λ (k : ℕ). text_after k (sentence_of s side n) text) (asked n) ∙ sym (after_as s xs ys side n text ∙ after_by (asked_requirements s xs ys n) 8 (sentence_of s side n) (asked_numbered s xs ys n) refl text)
 
   pub sentences_answer_holds : (lent : ℕ) → text_answer own (sentences_of s) lent ≡ sentences_answer s xs ys lent
   unfolding sentences_answer refusal_of
@@ -104,8 +120,8 @@ module _ (s : Situation) (xs ys : List Float) (own : ℕ) (first : own ≡ refus
 
 -- no more bytes are written than were lent
 pub sentence_room : (s : Situation) (xs ys : List Float) (side : Side) (n lent : ℕ) → bytes_in (sentence_answer s xs ys side n lent) ≤ lent
-unfolding sentence_answer
-sentence_room s xs ys side n lent = call_room (asked_requirements s xs ys n) 8 (sentence_of s side n) (asked_numbered s xs ys n) refl lent
+sentence_room s xs ys side n lent =
+    subst (λ (a : SheetAnswer). bytes_in a ≤ lent) (sym (answer_as s xs ys side n lent)) (call_room (asked_requirements s xs ys n) 8 (sentence_of s side n) (asked_numbered s xs ys n) refl lent)
 
 -- ---- the lines on all
 module _ (s : Situation) (xs ys : List Float) where
