@@ -4,3 +4,4 @@ pub mod Compare
 pub mod Values
 pub mod Height
 pub mod Near
+pub mod Units

@@ -8,6 +8,8 @@ ghost use Rattle.std.specs.Float.Ieee.{to_bits};
 ghost use Rattle.floats.specs.Leaves as Spec;
 ghost use Rattle.floats.specs.Compare as Compare;
 
+mod remainder;
+
 // The f32 nearest to pi.
 pub const PI: f32 = 3.14159274;
 
@@ -135,7 +137,7 @@ pub fn total_cmp(x: f32, y: f32) -> Order
 pub fn rem_euclid(x: f32, y: f32) -> f32
     ensures { result ≡ Spec.rem_euclid x y }
 {
-    let r = x % y;
+    let r = remainder::remainder(x, y);
     let s = r + abs(y); // before the test, so that it is compiled without a branch
     if r < 0.0 { s } else { r }
 }

@@ -1,4 +1,4 @@
-use Rattle.std.proofs.Common.{true, T, sym, subst}
+use Rattle.std.proofs.Common.{T, sym, subst}
 use lib.Ieee.{binary32, fits}
 use lib.Ieee.Compare.{differs_from_itself}
 use Rattle.floats.proofs.Nan.{not_unequal}
