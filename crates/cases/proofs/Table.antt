@@ -1,8 +1,15 @@
 -- The table of document 01's cases: each claim by evaluation of the definitions, the candidates' by the lists of proofs/Candidates.antt.
-use mathlib.Core.Path.{refl}
+use mathlib.Core.Path.{◌≡◌, refl}
+use Rattle.hypot.specs.Hypot.{hypot}
+use Rattle.cases.specs.Field.{◌over◌}
 use Rattle.cases.specs.Table.{Table}
 use Rattle.cases.proofs.Opened.{sheets}
 use Rattle.cases.proofs.Candidates.{lent_by_2, lent_by_1, lent_crossed}
+
+-- by itself, so that another number for it is refused at once
+three_four : hypot (3 over 1) (4 over 1) ≡ 5 over 1
+unfolding sheets
+three_four = refl
 
 pub table : Table
 unfolding sheets
@@ -15,7 +22,7 @@ table =
       a_in_set = refl;
       four_absent_margins = refl;
       four_absent_holds = refl;
-      hypot_3_4 = refl;
+      hypot_3_4 = three_four;
       hypot_zeros = refl;
       on_goal_line = refl;
       past_goal_line = refl;
