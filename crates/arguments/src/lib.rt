@@ -90,7 +90,8 @@ pub fn asked_by(words: usize, first: &[u8], second: &[u8]) -> Asked
     if words == 0 {
         return Asked::Run(Command::Sheet, Source::StandardInput);
     }
-    if words > 2 {
+    let too_many = words > 2;
+    if too_many {
         return Asked::Unclear;
     }
     let command = command_of(first);

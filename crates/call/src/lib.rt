@@ -42,7 +42,8 @@ pub fn write_sheet<'a>(
     ensures sheet_after { sheet.new ≡ Spec.sheet_after to s xs.now ys.now sheet.old }
 {
     let refusal = refusals::refusal(s, xs, ys);
-    if refusal != 0 {
+    let refused = refusal != 0;
+    if refused {
         return SheetAnswer::Refused(refusal);
     }
     let d = decision::decision_of(s, xs, ys);

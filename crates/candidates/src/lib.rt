@@ -66,7 +66,8 @@ pub fn fill_candidates(start: f32, min: f32, max: f32, step: f32, list: &mut [f3
 {
     let w = walk_of(start, min, max, step);
     let refused = unfit(start, min, max, step);
-    if refused | (list.len() <= w.count as usize) {
+    let nothing = refused | (list.len() <= w.count as usize);
+    if nothing {
         return 0;
     }
     let first = candidate_first(start, min, max);

@@ -61,7 +61,8 @@ pub fn words_within(words: &[u32]) -> usize
 pub fn is_situation(words: &[u32]) -> bool
     ensures { result ≡ Spec.is_situation words.now }
 {
-    if words.len() == layout::WORDS {
+    let whole = words.len() == layout::WORDS;
+    if whole {
         return words_within(words) == layout::WORDS;
     }
     false

@@ -109,6 +109,6 @@ module _ (a b : Bool) where
   kicking_changed g home away f m n = by_side g.kicking_side
     where
       by_side : (k : MaybeSide) → kicker_if_any k (changed_game a g) (changed_team a b home) (changed_team a b away) f m n ≡ kicker_if_any k g home away f m n
-      by_side NoSide = refl
+      by_side NoSide = cc (kicker_changed a b g home f m Home)  -- it would hold too if Home's kicker were told without a side; that nobody is told is the contract's
       by_side (Of Home) = ap (kicker_numbered Home) (kicker_changed a b g home f m Home)
       by_side (Of Away) = ap (kicker_numbered Away) (kicker_changed a b g away f n Away)

@@ -111,7 +111,8 @@ pub fn decide<'a>(s: Situation, xs: &'a [f32], ys: &'a [f32]) -> Answer
     ensures { result ≡ Spec.answer_of s xs.now ys.now }
 {
     let refusal = refusals::refusal(s, xs, ys);
-    if refusal == 0 {
+    let accepted = refusal == 0;
+    if accepted {
         let decision = decision_of(s, xs, ys);
         return Answer { refusal, decision };
     }

@@ -21,7 +21,8 @@ pub fn team_verdicts(
     let legal = Positioning::Legal;
     let blank = PlayerVerdict { verdict: legal };
     let mut out = [blank; 20];
-    if !positioning::is_judging(game) {
+    let unjudged = !positioning::is_judging(game);
+    if unjudged {
         return out;
     }
     let conditions = positioning::team_conditions(game, field, ball, side, team, margins);

@@ -24,7 +24,8 @@ fn blanks(text: &[u8], at: usize) -> usize
 {
     let mut n: usize = 0;
     while n < 11 {
-        if text[at + n] != 32 {
+        let is_blank = text[at + n] == 32;
+        if !is_blank {
             return n;
         }
         n += 1;
@@ -46,7 +47,8 @@ fn digits(text: &[u8], from: usize, end: usize) -> u64
             return WRONG;
         }
         v = 10 * v + (b - 48) as u64;
-        if v > 4294967295 {
+        let too_large = v > 4294967295;
+        if too_large {
             return WRONG;
         }
         i += 1;

@@ -30,7 +30,8 @@ pub fn bits(x: f32) -> u32
 pub fn from_bits(b: u32) -> f32
     ensures { result ≡ Ieee.of_bits binary32 b }
 {
-    if 0x7f80_0000 < b % 0x8000_0000 {
+    let nan = 0x7f80_0000 < b % 0x8000_0000;
+    if nan {
         let inf = f32::from_bits(0x7f80_0000);
         inf - inf
     } else {

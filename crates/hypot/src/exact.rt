@@ -123,7 +123,8 @@ fn nearest(p: u32, q: u32) -> u32
     let e = exponent(p);
     let g = exponent(q);
     let d = e - g;
-    if d > 12 {
+    let far = d > 12;
+    if far {
         return p;
     }
     let r = rooted((p - e * 8388608) as u64, (q - g * 8388608) as u64, 2 * d);

@@ -61,7 +61,8 @@ pub fn hypot(x: f32, y: f32) -> f32
                         if m <= 4_293_767_296 {
                             // The largest f32 is left out, since a bound of 0x7f80_0000 is compiled to slower code.
                             let k = b / 0x2000_0000;
-                            if k < 0x7f7f_ffff {
+                            let below = k < 0x7f7f_ffff;
+                            if below {
                                 return f32::from_bits(k as u32);
                             }
                         }

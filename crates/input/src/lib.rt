@@ -73,7 +73,8 @@ fn laid_out(numbers: &[u32], n: usize) -> Input
         return Input::Wrong(n, Fault::Missing);
     }
     let nx = count_of(numbers[WORDS]);
-    if PLACES < nx {
+    let long_x = PLACES < nx;
+    if long_x {
         return Input::Wrong(WORDS, Fault::LongList);
     }
     let at = FIRST_X + nx;
@@ -81,7 +82,8 @@ fn laid_out(numbers: &[u32], n: usize) -> Input
         return Input::Wrong(n, Fault::Missing);
     }
     let ny = count_of(numbers[at]);
-    if PLACES < ny {
+    let long_y = PLACES < ny;
+    if long_y {
         return Input::Wrong(at, Fault::LongList);
     }
     let all = FIRST_Y + nx + ny;

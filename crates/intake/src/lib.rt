@@ -18,7 +18,8 @@ pub fn read_text<R: Read>(input: &mut R, room: &mut [u8]) -> io::Result<usize>
     let mut size: usize = 0;
     while size < room.len() {
         let more = input.read(&mut room[size..])?;
-        if more == 0 {
+        let ended = more == 0;
+        if ended {
             return Ok(size);
         }
         size += more;

@@ -57,7 +57,8 @@ fn columns_at(part: &mut [u8], at: usize, v: u32)
 pub fn line(part: &mut [u8], row: Row)
     ensures { part.new ≡ fronted_into (Spec.line_of row) part.old }
 {
-    if part.len() < LINE {
+    let short = part.len() < LINE;
+    if short {
         return;
     }
     columns_at(part, 0, row.kind);

@@ -281,7 +281,8 @@ pub fn read_line(text: &[u8], line: usize) -> LineRead
     if n != 0 {
         return LineRead::RefusedLine(n);
     }
-    if line == 0 {
+    let is_header = line == 0;
+    if is_header {
         return LineRead::NoSuchLine;
     }
     let found = fields::line_at(text, line);

@@ -43,7 +43,8 @@ fn answer_number(answer: SheetAnswer) -> i64
 pub extern "C" fn referee_check(words: &[u32]) -> i64
     ensures { result ≡ Spec.check_number words.now }
 {
-    if words.len() == WORDS {
+    let whole = words.len() == WORDS;
+    if whole {
         let n = columns::words_within(words);
         if n == WORDS {
             return 0;
@@ -67,7 +68,8 @@ fn write_sheet<'a>(
     if !mode::is_ieee_mode(words.len()) {
         return minus(101);
     }
-    if columns::is_situation(words) {
+    let situation = columns::is_situation(words);
+    if situation {
         let s = words::situation_of(words);
         let answer = call::write_sheet(to, s, xs, ys, sheet);
         return answer_number(answer);
@@ -185,7 +187,8 @@ pub extern "C" fn referee_place<'a>(
         let s = words::situation_of(words);
         let answer = decision::decide(s, xs, ys);
         let refusal = answer.refusal;
-        if refusal != 0 {
+        let refused = refusal != 0;
+        if refused {
             return minus(refusal);
         }
         let d = answer.decision;
@@ -234,7 +237,8 @@ pub extern "C" fn referee_read_item(text: &[u8], line: u64, item: &mut [u32]) ->
     ensures value { result ≡ Spec.item_number text.now line (length item.old) }
     ensures item_after { item.new ≡ Spec.item_after text.now line item.old }
 {
-    if item.len() < 4 {
+    let short = item.len() < 4;
+    if short {
         return minus(100);
     }
     let found = reading::read_line(text, line as usize);

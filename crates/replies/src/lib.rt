@@ -135,7 +135,8 @@ pub fn told(text: &[u8], out: &mut [u8]) -> usize
     ensures value { result ≡ Spec.written_in text.now out.old }
     ensures out_after { out.new ≡ Spec.line_in text.now out.old }
 {
-    if out.len() < text.len() {
+    let too_few = out.len() < text.len();
+    if too_few {
         return 0;
     }
     put(out, 0, text)

@@ -143,7 +143,8 @@ pub fn coach_line(
     let c = condition_part(condition);
     let count = digits_of(number);
     let size = s.1 + count + v.1 + c.1;
-    if text.len() < size {
+    let too_few = text.len() < size;
+    if too_few {
         return 0;
     }
     let tens = 48 + number / 10 % 10;

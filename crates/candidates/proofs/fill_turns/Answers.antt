@@ -8,6 +8,24 @@ use Rattle.spacing.specs.Spacing.{places_at}
 use Rattle.candidates.proofs.CandidatesFill.{rooms, room_after, turn_adds, turn_room, count_two, put_two}
 use Rattle.candidates.proofs.fill_turns.Goals as goal
 
+pub loop-k-preserved : goal.loop-k-preserved
+loop-k-preserved c =
+    let two = c.put_if-n in
+    let one = c.put_if-with_lower in
+    let at = c.loop-k in
+    let a = c.args in
+    let f = places_at a.first a.min a.max a.step in
+    let lower = a.first -₃₂ c.from_count.result *₃₂ a.step in
+    let upper = a.first +₃₂ c.from_count.result *₃₂ a.step in
+    let adds = turn_adds a.first a.min a.max a.step c.from_count.result at.k c.from_count.ensures in
+    let room = turn_room f (le a.min lower) (le upper a.max) lower upper at.k at.n adds at.invariant.3 a.turns (length a.list.now) c.loop-k-test.true c.requires in (
+      search rules,
+      two.auto.list ∙ one.auto.list ∙ at.invariant.1,
+      put_two f (le a.min lower) (le upper a.max) lower upper at.k at.n adds at.invariant.3 a.list.now at.list two.new.list room at.invariant.2
+          (two.ensures.list_after ∙ ap₂ (λ (l : List Float) (k : ℕ). put_if (le upper a.max) l k upper) one.ensures.list_after one.ensures.value),
+      two.ensures.value ∙ ap (count_if (le upper a.max)) one.ensures.value ∙ count_two f (le a.min lower) (le upper a.max) lower upper at.k at.n adds at.invariant.3,
+    )
+
 pub loop-k-init : goal.loop-k-init
 unfolding flat_to
 loop-k-init c = let a = c.args in (search rules, refl, fronted_none (places_at a.first a.min a.max a.step) _, refl)
@@ -38,21 +56,3 @@ put_if-n-requires c =
     a.turns (length at.list) c.loop-k-test.true
     (subst (λ (m : ℕ). length (flat_to a.turns (places_at a.first a.min a.max a.step)) ≤ m) (sym at.invariant.1) c.requires)) in
     record { n_in_bounds = r.0; n_in_bounds_2 = r.1 }
-
-pub loop-k-preserved : goal.loop-k-preserved
-loop-k-preserved c =
-    let two = c.put_if-n in
-    let one = c.put_if-with_lower in
-    let at = c.loop-k in
-    let a = c.args in
-    let f = places_at a.first a.min a.max a.step in
-    let lower = a.first -₃₂ c.from_count.result *₃₂ a.step in
-    let upper = a.first +₃₂ c.from_count.result *₃₂ a.step in
-    let adds = turn_adds a.first a.min a.max a.step c.from_count.result at.k c.from_count.ensures in
-    let room = turn_room f (le a.min lower) (le upper a.max) lower upper at.k at.n adds at.invariant.3 a.turns (length a.list.now) c.loop-k-test.true c.requires in (
-      search rules,
-      two.auto.list ∙ one.auto.list ∙ at.invariant.1,
-      put_two f (le a.min lower) (le upper a.max) lower upper at.k at.n adds at.invariant.3 a.list.now at.list two.new.list room at.invariant.2
-          (two.ensures.list_after ∙ ap₂ (λ (l : List Float) (k : ℕ). put_if (le upper a.max) l k upper) one.ensures.list_after one.ensures.value),
-      two.ensures.value ∙ ap (count_if (le upper a.max)) one.ensures.value ∙ count_two f (le a.min lower) (le upper a.max) lower upper at.k at.n adds at.invariant.3,
-    )

@@ -8,15 +8,6 @@ use Rattle.coach.proofs.Lines.{side_few, all_written, all_short_holds, all_store
 use Rattle.sheet.specs.declared.text.SheetAnswer.TheVariants.{Refused, Written}
 use Rattle.coach.proofs.write_sentences.Goals as goal
 
-pub returns-then-refusal-ne0 : goal.returns-then-refusal-ne0
-returns-then-refusal-ne0 c =
-    let r = text_refused c.args.refusal (sentences_of c.args.s) c.args.text.now c.if-refusal-ne0.true in
-    record { value = r.0; text_after = r.1 }
-
-pub side_sentences-end-requires : goal.side_sentences-end-requires
-side_sentences-end-requires c =
-    omega (arith, c.side_sentences-middle.ensures.value, side_few Home c.side_conditions-home.result, c.side_sentences-middle.auto.lines, length-replicate {A = ℕ} 3000 0)
-
 pub returns-then-text-end : goal.returns-then-text-end
 returns-then-text-end c =
     let first = c.side_sentences-middle in
@@ -26,6 +17,15 @@ returns-then-text-end c =
     let text = all_short_holds c.args.s _ second.result all c.args.text.now c.if-text-end.true in
     let r = text_told c.args.refusal (sentences_of c.args.s) c.args.text.now (Refused 8) c.args.text.now c.if-refusal-ne0.false text.0 text.1 in
     record { value = r.0; text_after = r.1 }
+
+pub returns-then-refusal-ne0 : goal.returns-then-refusal-ne0
+returns-then-refusal-ne0 c =
+    let r = text_refused c.args.refusal (sentences_of c.args.s) c.args.text.now c.if-refusal-ne0.true in
+    record { value = r.0; text_after = r.1 }
+
+pub side_sentences-end-requires : goal.side_sentences-end-requires
+side_sentences-end-requires c =
+    omega (arith, c.side_sentences-middle.ensures.value, side_few Home c.side_conditions-home.result, c.side_sentences-middle.auto.lines, length-replicate {A = ℕ} 3000 0)
 
 pub slice_bounds-lines-end : goal.slice_bounds-lines-end
 slice_bounds-lines-end c =

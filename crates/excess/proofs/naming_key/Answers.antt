@@ -26,6 +26,11 @@ order m x bits r known b e = e ∙ ap total_key b ∙ ap margin_order (sym known
 early : (x i : ℕ) → x * 32 + (30 - i) ≡ inside_key true x i
 early x i = omega arith
 
+pub returns-clause-value : goal.returns-clause-value
+returns-clause-value c =
+    (no_key_holds c.args.prefer_newcomers c.args.player c.args.margins c.args.i
+    (area _ _ _ _ false c.in-Known.is c.is_unpenalized-unpenalized.ensures c.if-unpenalized-margin.false)).0
+
 pub returns-in_default-clause-value : goal.returns-in_default-clause-value
 returns-in_default-clause-value c = (no_key_holds c.args.prefer_newcomers c.args.player c.args.margins c.args.i (absent c.args.player c.args.margins c.in_default.is)).0
 
@@ -44,11 +49,6 @@ returns-then-unpenalized-margin-clause-value c =
     (its_key c.args.prefer_newcomers c.args.player c.args.margins c.args.i c.total_key-order.result false
     (area _ _ _ _ true c.in-Known.is c.is_unpenalized-unpenalized.ensures c.if-unpenalized-margin.true) c.if-prefer_newcomers-player.false
     (order _ _ _ _ c.in-Known.is c.bits.ensures c.total_key-order.ensures) (omega arith)).0
-
-pub returns-clause-value : goal.returns-clause-value
-returns-clause-value c =
-    (no_key_holds c.args.prefer_newcomers c.args.player c.args.margins c.args.i
-    (area _ _ _ _ false c.in-Known.is c.is_unpenalized-unpenalized.ensures c.if-unpenalized-margin.false)).0
 
 pub returns-clause-small : goal.returns-clause-small
 returns-clause-small c =

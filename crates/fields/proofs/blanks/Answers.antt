@@ -3,18 +3,18 @@ use Rattle.fields.specs.Fields.{columns_from}
 use Rattle.fields.proofs.Walks.{length_columns_from, column_byte, blank_turn, blank_stop, blank_end}
 use Rattle.fields.proofs.blanks.Goals as goal
 
-pub returns-then-text-at-ne32 : goal.returns-then-text-at-ne32
-returns-then-text-at-ne32 c =
+pub returns-then-not-is_blank : goal.returns-then-not-is_blank
+returns-then-not-is_blank c =
     let long = length_columns_from c.args.text.now c.args.at c.requires in
     blank_stop (columns_from c.args.at c.args.text.now) c.loop-n.n (omega (arith, c.loop-n-test.true, long))
-    (λ e. c.if-text-at-ne32.true (sym (column_byte c.args.text.now c.args.at c.loop-n.n c.loop-n-test.true) ∙ e)) c.loop-n.invariant.1
+    (λ e. c.if-not-is_blank.true (sym (column_byte c.args.text.now c.args.at c.loop-n.n c.loop-n-test.true) ∙ e)) c.loop-n.invariant.1
 
 pub loop-n-preserved : goal.loop-n-preserved
 loop-n-preserved c =
     let long = length_columns_from c.args.text.now c.args.at c.requires in (
       search rules,
       blank_turn (columns_from c.args.at c.args.text.now) c.loop-n.n (omega (arith, c.loop-n-test.true, long))
-          (column_byte c.args.text.now c.args.at c.loop-n.n c.loop-n-test.true ∙ c.if-text-at-ne32.false) c.loop-n.invariant.1,
+          (column_byte c.args.text.now c.args.at c.loop-n.n c.loop-n-test.true ∙ c.if-not-is_blank.false) c.loop-n.invariant.1,
     )
 
 pub returns : goal.returns

@@ -7,9 +7,9 @@ pub returns-then-not-is_digit : goal.returns-then-not-is_digit
 returns-then-not-is_digit c =
     other_turn c.args.text.now c.loop-i.i c.args.end c.loop-i.v c.loop-i-test.true c.requires.2 c.if-not-is_digit.true ∙ c.loop-i.invariant.3
 
-pub returns-then-v-gt4294967295 : goal.returns-then-v-gt4294967295
-returns-then-v-gt4294967295 c =
-    sym (large_on (10 * c.loop-i.v + (get_or c.args.text.now c.loop-i.i 0 - 48)) (slice (c.loop-i.i + 1) c.args.end c.args.text.now) c.if-v-gt4294967295.true)
+pub returns-then-too_large : goal.returns-then-too_large
+returns-then-too_large c =
+    sym (large_on (10 * c.loop-i.v + (get_or c.args.text.now c.loop-i.i 0 - 48)) (slice (c.loop-i.i + 1) c.args.end c.args.text.now) (omega (arith, c.if-too_large.true)))
     ∙ digit_turn c.args.text.now c.loop-i.i c.args.end c.loop-i.v c.loop-i-test.true c.requires.2 c.if-not-is_digit.false
     ∙ c.loop-i.invariant.3
 
@@ -17,7 +17,7 @@ pub loop-i-preserved : goal.loop-i-preserved
 loop-i-preserved c = (
   search rules,
   search rules,
-  c.if-v-gt4294967295.false,
+  c.if-too_large.false,
   digit_turn c.args.text.now c.loop-i.i c.args.end c.loop-i.v c.loop-i-test.true c.requires.2 c.if-not-is_digit.false ∙ c.loop-i.invariant.3,
 )
 

@@ -20,8 +20,8 @@ returns-then-leads c =
     let cs = columns_from c.args.at c.args.text.now in
     let n = c.blanks-n.result in
     let long = length_columns_from c.args.text.now c.args.at c.requires in
-    let leads = both_true (nat_lt n 10) (nat_eq (get_or c.args.text.now (c.args.at + n) 0) 48) c.if-leads.true in
-    let low = ltb-true n 10 leads.0 in
+    let leads = both_true _ (nat_eq (get_or c.args.text.now (c.args.at + n) 0) 48) c.if-leads.true in
+    let low = ltb-true n _ leads.0 in
     let first : get_or cs n 0 ≡ 48 = column_byte c.args.text.now c.args.at n (omega (arith, low)) ∙ eqb-true (get_or c.args.text.now (c.args.at + n) 0) 48 leads.1 in
     value_zero cs (omega (arith, long, low, c.blanks-n.ensures)) (ap (λ (k : ℕ). get_or cs k 0) (sym c.blanks-n.ensures) ∙ first)
 

@@ -9,5 +9,5 @@ float_from_bits-inf c = number_bits binary32 0x7f80_0000 (omega arith)
 pub float_from_bits-result : goal.float_from_bits-result
 float_from_bits-result c = number_bits binary32 c.args.b (omega arith)
 
-pub returns-then-b-gt2139095040 : goal.returns-then-b-gt2139095040
-returns-then-b-gt2139095040 c = inf_less_inf ∙ sym (nan_bits_holds binary32 c.args.b (omega arith))
+pub returns-then-nan : goal.returns-then-nan
+returns-then-nan c = inf_less_inf ∙ sym (nan_bits_holds binary32 c.args.b (omega arith))

@@ -50,14 +50,14 @@ estimate-r-requires c = summed _ _ _ c.sum_of_squares-s.ensures (equals_itself _
 pub float_to_bits-r : goal.float_to_bits-r
 float_to_bits-r c = guess_number _ _ c.if-s-t.true
 
-pub float_from_bits-result-then-k-lt2139095039 : goal.float_from_bits-result-then-k-lt2139095039
-float_from_bits-result-then-k-lt2139095039 c = number_bits binary32 _ (omega arith)
+pub float_from_bits-result-then-below : goal.float_from_bits-result-then-below
+float_from_bits-result-then-below c = number_bits binary32 _ (omega arith)
 
-pub returns-then-k-lt2139095039 : goal.returns-then-k-lt2139095039
+pub returns-then-below : goal.returns-then-below
 unfolding of_bits
-returns-then-k-lt2139095039 c =
+returns-then-below c =
     sure c.args.x c.args.y c.sum_of_squares-s.result c.estimate-r.result c.wrapping_add_u64-b.result
     (subst T (sym c.well_formed.0.1) tt) (subst T (sym c.well_formed.1.0.1) tt) (equals_itself _ c.if-x.true) (equals_itself _ c.if-y.true)
     c.sum_of_squares-s.ensures c.if-p-q-le16777216.false c.estimate-r.ensures c.wrapping_add_u64-b.ensures.value
-    c.if-m-ge1200000.true c.if-m-le4293767296.true c.if-k-lt2139095039.true
+    c.if-m-ge1200000.true c.if-m-le4293767296.true c.if-below.true
     c.if-s-t.true c.if-t-s.true

@@ -34,39 +34,39 @@ module _ (ns : List ℕ) (n there w : ℕ) (t : there ≡ min n word_count) (e :
     y_read : count_y nx < n → (ny : ℕ) → ny ≡ get_or ns (count_y nx) 0 → ny ≤ most_places → after_counts n nx ny ≡ Whole ns n
     y_read past_y ny y few_y = y_counted ns n nx ny y past_y few_y ∙ x_read
 
+pub returns : goal.returns
+returns c =
+    just_so_many _ _ _ c.if-n-all.false c.if-all-n.false
+    ∙ y_read _ _ _ _ c.lesser-there.ensures c.words_within-w.ensures c.if-w-there.false c.if-n-le-WORDS.false _ c.count_of-nx.ensures c.if-long_x.false
+    c.if-n-at.false _ c.count_of-ny.ensures c.if-long_y.false
+
 pub returns-then-w-there : goal.returns-then-w-there
 returns-then-w-there c = first_outside _ _ _ _ c.lesser-there.ensures c.words_within-w.ensures c.if-w-there.true
 
 pub returns-then-n-le-WORDS : goal.returns-then-n-le-WORDS
 returns-then-n-le-WORDS c = x_missing _ _ c.if-n-le-WORDS.true ∙ inside _ _ _ _ c.lesser-there.ensures c.words_within-w.ensures c.if-w-there.false
 
-pub returns-then-nx-gt-PLACES : goal.returns-then-nx-gt-PLACES
-returns-then-nx-gt-PLACES c =
-    x_long _ _ _ c.count_of-nx.ensures c.if-n-le-WORDS.false c.if-nx-gt-PLACES.true ∙ inside _ _ _ _ c.lesser-there.ensures c.words_within-w.ensures c.if-w-there.false
+pub returns-then-long_x : goal.returns-then-long_x
+returns-then-long_x c =
+    x_long _ _ _ c.count_of-nx.ensures c.if-n-le-WORDS.false c.if-long_x.true ∙ inside _ _ _ _ c.lesser-there.ensures c.words_within-w.ensures c.if-w-there.false
 
 pub returns-then-n-at : goal.returns-then-n-at
 returns-then-n-at c =
-    y_missing _ _ _ c.if-n-at.true ∙ x_read _ _ _ _ c.lesser-there.ensures c.words_within-w.ensures c.if-w-there.false c.if-n-le-WORDS.false _ c.count_of-nx.ensures c.if-nx-gt-PLACES.false
+    y_missing _ _ _ c.if-n-at.true ∙ x_read _ _ _ _ c.lesser-there.ensures c.words_within-w.ensures c.if-w-there.false c.if-n-le-WORDS.false _ c.count_of-nx.ensures c.if-long_x.false
 
-pub returns-then-ny-gt-PLACES : goal.returns-then-ny-gt-PLACES
-returns-then-ny-gt-PLACES c =
-    y_long _ _ _ _ c.count_of-ny.ensures c.if-n-at.false c.if-ny-gt-PLACES.true
-    ∙ x_read _ _ _ _ c.lesser-there.ensures c.words_within-w.ensures c.if-w-there.false c.if-n-le-WORDS.false _ c.count_of-nx.ensures c.if-nx-gt-PLACES.false
+pub returns-then-long_y : goal.returns-then-long_y
+returns-then-long_y c =
+    y_long _ _ _ _ c.count_of-ny.ensures c.if-n-at.false (omega (arith, c.if-long_y.true))
+    ∙ x_read _ _ _ _ c.lesser-there.ensures c.words_within-w.ensures c.if-w-there.false c.if-n-le-WORDS.false _ c.count_of-nx.ensures c.if-long_x.false
 
 pub returns-then-n-all : goal.returns-then-n-all
 returns-then-n-all c =
     too_few _ _ _ c.if-n-all.true
-    ∙ y_read _ _ _ _ c.lesser-there.ensures c.words_within-w.ensures c.if-w-there.false c.if-n-le-WORDS.false _ c.count_of-nx.ensures c.if-nx-gt-PLACES.false
-    c.if-n-at.false _ c.count_of-ny.ensures c.if-ny-gt-PLACES.false
+    ∙ y_read _ _ _ _ c.lesser-there.ensures c.words_within-w.ensures c.if-w-there.false c.if-n-le-WORDS.false _ c.count_of-nx.ensures c.if-long_x.false
+    c.if-n-at.false _ c.count_of-ny.ensures c.if-long_y.false
 
 pub returns-then-all-n : goal.returns-then-all-n
 returns-then-all-n c =
     too_many _ _ _ c.if-all-n.true c.if-n-all.false
-    ∙ y_read _ _ _ _ c.lesser-there.ensures c.words_within-w.ensures c.if-w-there.false c.if-n-le-WORDS.false _ c.count_of-nx.ensures c.if-nx-gt-PLACES.false
-    c.if-n-at.false _ c.count_of-ny.ensures c.if-ny-gt-PLACES.false
-
-pub returns : goal.returns
-returns c =
-    just_so_many _ _ _ c.if-n-all.false c.if-all-n.false
-    ∙ y_read _ _ _ _ c.lesser-there.ensures c.words_within-w.ensures c.if-w-there.false c.if-n-le-WORDS.false _ c.count_of-nx.ensures c.if-nx-gt-PLACES.false
-    c.if-n-at.false _ c.count_of-ny.ensures c.if-ny-gt-PLACES.false
+    ∙ y_read _ _ _ _ c.lesser-there.ensures c.words_within-w.ensures c.if-w-there.false c.if-n-le-WORDS.false _ c.count_of-nx.ensures c.if-long_x.false
+    c.if-n-at.false _ c.count_of-ny.ensures c.if-long_y.false

@@ -18,10 +18,10 @@ front at room n xs ys end within few same =
 pub loop-size-init : goal.loop-size-init
 loop-size-init g c = (search rules, search rules, Consumes-nil _)
 
-pub returns-then-more-eq0-clause-bytes : goal.returns-then-more-eq0-clause-bytes
-returns-then-more-eq0-clause-bytes g c =
+pub returns-then-ended-clause-bytes : goal.returns-then-ended-clause-bytes
+returns-then-ended-clause-bytes g c =
     let read = c.in_ok-more.ensures in
-    let bytes = front c.loop-size.size _ c.in_ok-more.more _ _ c.loop-size.size c.loop-size.invariant.1 read.bound.0 (omega (arith, c.if-more-eq0.true)) in
+    let bytes = front c.loop-size.size _ c.in_ok-more.more _ _ c.loop-size.size c.loop-size.invariant.1 read.bound.0 (omega (arith, c.if-ended.true)) in
     subst (Consumes _ _) (sym bytes) (Consumes-trans _ _ _ _ _ c.loop-size.invariant.2 read.bytes.0)
 
 pub loop-size-preserved : goal.loop-size-preserved

@@ -23,6 +23,10 @@ is_at_least Ordering.gt = refl
 told : (o : Ordering) (r e : Order) → r ≡ order o → r ≡ e → not_below o ≡ at_least e
 told o r e p q = is_at_least o ∙ ap at_least (sym p ∙ q)
 
+pub returns-in-Less : goal.returns-in-Less
+unfolding considered
+returns-in-Less c = simp (c.if-choice.false, c.if-c-distance.false, told (total_order c.args.c c.args.choice.clearance) c.total_cmp.result Less c.total_cmp.ensures c.in-Less.is)
+
 pub returns-then-choice : goal.returns-then-choice
 unfolding considered
 returns-then-choice c = simp c.if-choice.true
@@ -30,10 +34,6 @@ returns-then-choice c = simp c.if-choice.true
 pub returns-then-c-distance : goal.returns-then-c-distance
 unfolding considered
 returns-then-c-distance c = simp (c.if-choice.false, c.if-c-distance.true)
-
-pub returns-in-Less : goal.returns-in-Less
-unfolding considered
-returns-in-Less c = simp (c.if-choice.false, c.if-c-distance.false, told (total_order c.args.c c.args.choice.clearance) c.total_cmp.result Less c.total_cmp.ensures c.in-Less.is)
 
 pub returns-in-Equal : goal.returns-in-Equal
 unfolding considered

@@ -9,7 +9,7 @@ use Rattle.referee_c.proofs.EntryLaws.{other_length, none_outside, first_outside
 use Rattle.referee_c.proofs.referee_check.Goals as goal
 
 pub returns-then-n-eq-WORDS : goal.returns-then-n-eq-WORDS
-returns-then-n-eq-WORDS c = none_outside c.args.words.now c.if-words-eq-WORDS.true (sym c.words_within-n.ensures ∙ c.if-n-eq-WORDS.true)
+returns-then-n-eq-WORDS c = none_outside c.args.words.now c.if-whole.true (sym c.words_within-n.ensures ∙ c.if-n-eq-WORDS.true)
 
 -- as many words as a situation has, at most
 few : (c : goal.Else-n-eq-WORDS) → c.words_within-n.result ≤ word_count
@@ -21,12 +21,12 @@ overflow_add-result c = omega (arith, few c)
 pub overflow_cast-result : goal.overflow_cast-result
 overflow_cast-result c = count_fits _ (omega (arith, few c))
 
-pub returns-then-words-eq-WORDS : goal.returns-then-words-eq-WORDS
-returns-then-words-eq-WORDS c =
+pub returns-then-whole : goal.returns-then-whole
+returns-then-whole c =
     let ws = c.args.words.now in
     count_read _ (omega (arith, few c))
     ∙ ap (λ (n : ℕ). pos (n + 1)) c.words_within-n.ensures
-    ∙ first_outside ws c.if-words-eq-WORDS.true (λ (e : words_within ws ≡ word_count). c.if-n-eq-WORDS.false (c.words_within-n.ensures ∙ e))
+    ∙ first_outside ws c.if-whole.true (λ (e : words_within ws ≡ word_count). c.if-n-eq-WORDS.false (c.words_within-n.ensures ∙ e))
 
 pub returns : goal.returns
-returns c = to_z-of_z w64 c.minus.result (search rules) ∙ c.minus.ensures ∙ other_length c.args.words.now c.if-words-eq-WORDS.false
+returns c = to_z-of_z w64 c.minus.result (search rules) ∙ c.minus.ensures ∙ other_length c.args.words.now c.if-whole.false

@@ -11,6 +11,11 @@ known : (j : ℕ) → j < 98 → Between (table (suc (length texts)) (start_of t
 unfolding texts names_of names
 known j h = between j h
 
+pub returns-then-j-lt-TEXTS : goal.returns-then-j-lt-TEXTS
+unfolding texts names_of names decimal_from start_of flatten
+returns-then-j-lt-TEXTS c =
+    let t = text_written (known c.args.j c.if-j-lt-TEXTS.true) c.args.at _ c.args.out.now _ c.put.ensures.value c.put.ensures.out_after in record { value = t.0; out_after = t.1 }
+
 pub slice_bounds-put-count : goal.slice_bounds-put-count
 unfolding texts names_of names decimal_from start_of
 slice_bounds-put-count c = (known c.args.j c.if-j-lt-TEXTS.true).ordered
@@ -26,11 +31,6 @@ slice_bounds-put-end c = (known c.args.j c.if-j-lt-TEXTS.true).inside
 pub put-requires : goal.put-requires
 unfolding texts names_of names decimal_from start_of flatten
 put-requires c = text_fits (known c.args.j c.if-j-lt-TEXTS.true) _ _ c.requires
-
-pub returns-then-j-lt-TEXTS : goal.returns-then-j-lt-TEXTS
-unfolding texts names_of names decimal_from start_of flatten
-returns-then-j-lt-TEXTS c =
-    let t = text_written (known c.args.j c.if-j-lt-TEXTS.true) c.args.at _ c.args.out.now _ c.put.ensures.value c.put.ensures.out_after in record { value = t.0; out_after = t.1 }
 
 pub returns : goal.returns
 unfolding texts names_of names

@@ -3,8 +3,8 @@ use Rattle.lists.proofs.Table.{turn, done}
 use Rattle.decision.proofs.Told.{verdict_told, verdicts_told, verdicts_none}
 use Rattle.decision.proofs.judges.team_verdicts.Goals as goal
 
-pub returns-then-not-is_judging : goal.returns-then-not-is_judging
-returns-then-not-is_judging c = verdicts_none _ _ _ _ _ _ (sym c.is_judging.ensures ∙ c.if-not-is_judging.true)
+pub returns-then-unjudged : goal.returns-then-unjudged
+returns-then-unjudged c = verdicts_none _ _ _ _ _ _ (sym c.is_judging-unjudged.ensures ∙ c.if-unjudged.true)
 
 pub loop-i-preserved : goal.loop-i-preserved
 loop-i-preserved c = (search rules, turn _ _ _ _ _ (search rules) c.loop-i.invariant.1 (verdict_told _ _ c.verdict_of-verdict.ensures))

@@ -7,8 +7,8 @@ use Rattle.hypot.proofs.exact.nearest.Goals as goal
 pub returns-then-q-eq0 : goal.returns-then-q-eq0
 returns-then-q-eq0 c = alone c.args.p c.requires.1 ∙ ap (λ (q : ℕ). nearest_root (square (units_of c.args.p) + square (units_of q))) (sym c.if-q-eq0.true)
 
-pub returns-then-d-gt12 : goal.returns-then-d-gt12
-returns-then-d-gt12 c = far c.args.p c.args.q c.exponent-e.result c.exponent-g.result c.exponent-e.ensures c.exponent-g.ensures c.requires.0 c.requires.1 c.if-d-gt12.true
+pub returns-then-far : goal.returns-then-far
+returns-then-far c = far c.args.p c.args.q c.exponent-e.result c.exponent-g.result c.exponent-e.ensures c.exponent-g.ensures c.requires.0 c.requires.1 c.if-far.true
 
 pub returns : goal.returns
 returns c =

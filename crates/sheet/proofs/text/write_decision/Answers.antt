@@ -20,7 +20,7 @@ overflow_cast-header c = omega (arith, lines_few c.args.d _ _ c.line_count.ensur
 pub returns-then-sheet-bytes : goal.returns-then-sheet-bytes
 returns-then-sheet-bytes c =
     let counted = lines_counted _ _ _ _ c.line_count.ensures.0 c.lines_of_place-placed.ensures.0 c.blocks_of-blocks.ensures.place_value in
-    let told = decision_refused c.args.d _ c.args.sheet.now counted c.if-sheet-bytes.true in
+    let told = decision_refused c.args.d _ c.args.sheet.now counted (omega (arith, c.if-sheet-bytes.true)) in
     record { value = told.0; sheet_after = told.1 }
 
 pub returns : goal.returns
