@@ -1,13 +1,11 @@
 -- What a call of `judge` asks for, by its words: `judge [COMMAND] [FILE]`. Definitions only.
-use Rattle.std.specs.Prelude.{Bool, ◌&&◌, cond, List, [], ◌∷◌, ℕ, zero, suc, eqb, length, get_or}
+use Rattle.std.specs.Prelude.{Bool, ◌&&◌, cond, List, [], ◌∷◌, ℕ, zero, suc, eqb, length, get_or, Option, None, Some}
 use Rattle.lists.specs.Every.{every_to}
 use Rattle.arguments.specs.declared.Command.TheVariants.{Sheet, Display, Coach, Read, Help}
-use Rattle.arguments.specs.declared.MaybeCommand.{MaybeCommand}
-use Rattle.arguments.specs.declared.MaybeCommand.TheVariants.{NoCommand, Of}
 use Rattle.arguments.specs.declared.Source.{Source}
 use Rattle.arguments.specs.declared.Source.TheVariants.{StandardInput, FirstWord, SecondWord}
 use Rattle.arguments.specs.declared.Asked.{Asked}
-use Rattle.arguments.specs.declared.Asked.TheVariants.{Run, Unclear}
+use Rattle.arguments.specs.declared.Command.{Command}
 
 -- the same bytes
 unfoldable pub is_word : List ℕ → List ℕ → Bool
@@ -38,28 +36,32 @@ abbrev pub dash : List ℕ
 dash = 45 ∷ []
 
 -- the command that a word is, or none
-unfoldable pub command_of : List ℕ → MaybeCommand
+unfoldable pub command_of : List ℕ → Option Command
 command_of word =
-    cond (is_word word sheet_word) (Of Sheet)
-    (cond (is_word word display_word) (Of Display) (cond (is_word word coach_word) (Of Coach) (cond (is_word word read_word) (Of Read) (cond (is_word word help_word) (Of Help) NoCommand))))
+    cond (is_word word sheet_word) (Some Sheet)
+    (cond (is_word word display_word) (Some Display) (cond (is_word word coach_word) (Some Coach) (cond (is_word word read_word) (Some Read) (cond (is_word word help_word) (Some Help) None))))
 
 -- standard input for "-", otherwise the file of that name
 unfoldable pub source_of : List ℕ → Source → Source
 source_of word file = cond (is_word word dash) StandardInput file
 
+-- a command and what it reads
+abbrev pub run : Command → Source → Option Asked
+run c s = Some (record { command = c; source = s })
+
 -- one word is a command, or else the file whose sheet is asked for
-abbrev pub by_one : MaybeCommand → List ℕ → Asked
-by_one NoCommand first = Run Sheet (source_of first FirstWord)
-by_one (Of c) first = Run c StandardInput
+abbrev pub by_one : Option Command → List ℕ → Option Asked
+by_one None first = run Sheet (source_of first FirstWord)
+by_one (Some c) first = run c StandardInput
 
 -- of two words the first must be a command, and the second is its file
-abbrev pub by_two : MaybeCommand → List ℕ → Asked
-by_two NoCommand second = Unclear
-by_two (Of c) second = Run c (source_of second SecondWord)
+abbrev pub by_two : Option Command → List ℕ → Option Asked
+by_two None second = None
+by_two (Some c) second = run c (source_of second SecondWord)
 
 -- what so many words ask for, of which the first two are given
-unfoldable pub asked_of : ℕ → List ℕ → List ℕ → Asked
-asked_of zero first second = Run Sheet StandardInput
+unfoldable pub asked_of : ℕ → List ℕ → List ℕ → Option Asked
+asked_of zero first second = run Sheet StandardInput
 asked_of (suc zero) first second = by_one (command_of first) first
 asked_of (suc (suc zero)) first second = by_two (command_of first) second
-asked_of (suc (suc (suc n))) first second = Unclear
+asked_of (suc (suc (suc n))) first second = None

@@ -5,7 +5,7 @@ ghost use Rattle.std.specs.Prelude.{◌≡◌, length};
 ghost use Rattle.arguments.specs.Arguments as Spec;
 
 // The commands, those that `judge help` lists.
-#[derive(Clone, Copy)]
+#[derive(Clone, Copy, PartialEq, Eq)]
 pub enum Command {
     Sheet,
     Display,
@@ -14,63 +14,48 @@ pub enum Command {
     Help,
 }
 
-#[derive(Clone, Copy)]
-pub enum MaybeCommand {
-    NoCommand,
-    Of(Command),
-}
-
 // What is read: standard input, or the file that the first or the second word names.
-#[derive(Clone, Copy)]
+#[derive(Clone, Copy, PartialEq, Eq)]
 pub enum Source {
     StandardInput,
     FirstWord,
     SecondWord,
 }
 
-// A command and what it reads; or words of which it cannot be told.
-#[derive(Clone, Copy)]
-pub enum Asked {
-    Run(Command, Source),
-    Unclear,
+// What is asked for: a command, and what it reads.
+#[derive(Clone, Copy, PartialEq, Eq)]
+pub struct Asked {
+    pub command: Command,
+    pub source: Source,
 }
 
 // Whether a word is this one.
 fn is_word(word: &[u8], name: &[u8]) -> bool
     ensures { result ≡ Spec.is_word word.now name.now }
 {
-    if word.len() != name.len() {
-        return false;
-    }
-    let mut same = true;
-    let mut i: usize = 0;
-    while i < word.len() {
-        same = same & (word[i] == name[i]);
-        i += 1;
-    }
-    same
+    word == name
 }
 
 // The command that a word is, or none.
-pub fn command_of(word: &[u8]) -> MaybeCommand
+pub fn command_of(word: &[u8]) -> Option<Command>
     ensures { result ≡ Spec.command_of word.now }
 {
     if is_word(word, b"sheet") {
-        return MaybeCommand::Of(Command::Sheet);
+        return Some(Command::Sheet);
     }
     if is_word(word, b"display") {
-        return MaybeCommand::Of(Command::Display);
+        return Some(Command::Display);
     }
     if is_word(word, b"coach") {
-        return MaybeCommand::Of(Command::Coach);
+        return Some(Command::Coach);
     }
     if is_word(word, b"read") {
-        return MaybeCommand::Of(Command::Read);
+        return Some(Command::Read);
     }
     if is_word(word, b"help") {
-        return MaybeCommand::Of(Command::Help);
+        return Some(Command::Help);
     }
-    MaybeCommand::NoCommand
+    None
 }
 
 // Standard input for `-`, otherwise the file of that name.
@@ -83,32 +68,41 @@ fn source_of(word: &[u8], file: Source) -> Source
     file
 }
 
-// What so many words ask for, of which the first two are given.
-pub fn asked_by(words: usize, first: &[u8], second: &[u8]) -> Asked
+// What so many words ask for, of which the first two are given; none where it cannot be told.
+pub fn asked_by(words: usize, first: &[u8], second: &[u8]) -> Option<Asked>
     ensures { result ≡ Spec.asked_of words first.now second.now }
 {
     if words == 0 {
-        return Asked::Run(Command::Sheet, Source::StandardInput);
+        return Some(Asked {
+            command: Command::Sheet,
+            source: Source::StandardInput,
+        });
     }
     let too_many = words > 2;
     if too_many {
-        return Asked::Unclear;
+        return None;
     }
     let command = command_of(first);
     if words == 1 {
         return match command {
-            MaybeCommand::NoCommand => {
+            None => {
                 let source = source_of(first, Source::FirstWord);
-                Asked::Run(Command::Sheet, source)
+                Some(Asked {
+                    command: Command::Sheet,
+                    source,
+                })
             }
-            MaybeCommand::Of(c) => Asked::Run(c, Source::StandardInput),
+            Some(command) => Some(Asked {
+                command,
+                source: Source::StandardInput,
+            }),
         };
     }
     match command {
-        MaybeCommand::NoCommand => Asked::Unclear,
-        MaybeCommand::Of(c) => {
+        None => None,
+        Some(command) => {
             let source = source_of(second, Source::SecondWord);
-            Asked::Run(c, source)
+            Some(Asked { command, source })
         }
     }
 }

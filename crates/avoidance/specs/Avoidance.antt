@@ -1,5 +1,5 @@
 -- The avoidance region of a free kick: when it is in effect, who is in it, and by which test. Definitions only.
-use Rattle.std.specs.Prelude.{Bool, true, false, not, ◌&&◌, Float}
+use Rattle.std.specs.Prelude.{Bool, true, false, not, ◌&&◌, Float, Option, None, Some}
 use Rattle.std.specs.Float.Ieee.{neg, le}
 use Rattle.floats.specs.Arithmetic.{◌+₃₂◌, ◌-₃₂◌, ◌*₃₂◌, half}
 use Rattle.floats.specs.Leaves.{abs}
@@ -9,15 +9,9 @@ use Rattle.game.specs.declared.Ball.{Ball}
 use Rattle.game.specs.declared.FieldDimensions.{FieldDimensions}
 use Rattle.game.specs.declared.Game.{Game}
 use Rattle.game.specs.declared.Margins.{Margins}
-use Rattle.game.specs.declared.MaybeMargins.{MaybeMargins}
-use Rattle.game.specs.declared.MaybeMargins.TheVariants.{NoMargins, Known}
-use Rattle.game.specs.declared.MaybeSide.{MaybeSide}
-use Rattle.game.specs.declared.MaybeSide.TheVariants.{NoSide, Of}
 use Rattle.game.specs.declared.Penalty.{Penalty}
 use Rattle.game.specs.declared.Player.{Player}
 use Rattle.game.specs.declared.PlayerPose.{PlayerPose}
-use Rattle.game.specs.declared.SeenPose.{SeenPose}
-use Rattle.game.specs.declared.SeenPose.TheVariants.{Absent, Present}
 use Rattle.game.specs.declared.SetPlay.{SetPlay}
 use Rattle.game.specs.declared.SetPlay.TheVariants.{NoSetPlay, KickOff, DirectFreeKick, IndirectFreeKick, PenaltyKick, ThrowIn, GoalKick, CornerKick}
 use Rattle.game.specs.declared.Side.{Side}
@@ -27,9 +21,9 @@ use Rattle.conditions.specs.declared.Condition.{Condition}
 use Rattle.conditions.specs.declared.Condition.TheVariants.{NoCondition, NearBall, InGoalKickArea, InAreaOfBall}
 
 -- there is a side
-abbrev pub is_some : MaybeSide → Bool
-is_some NoSide = false
-is_some (Of side) = true
+abbrev pub is_some : Option Side → Bool
+is_some None = false
+is_some (Some side) = true
 
 -- free kicks, goal kicks, corner kicks and throw-ins
 abbrev pub has_avoidance_region : SetPlay → Bool
@@ -70,19 +64,19 @@ region_condition play f b sign p m =
     (first_of (is_ball_in_own_penalty_area b f sign && is_inside m.own_penalty_area) InAreaOfBall NoCondition)))
 
 -- the same where pose and margins are there
-abbrev pub seen_region_condition : SeenPose → MaybeMargins → Game → FieldDimensions → Ball → Side → Condition
-seen_region_condition Absent m g f b side = NoCondition
-seen_region_condition (Present p) NoMargins g f b side = NoCondition
-seen_region_condition (Present p) (Known m) g f b side = region_condition g.set_play f b (side_to_sign side g.sides) p m
+abbrev pub seen_region_condition : Option PlayerPose → Option Margins → Game → FieldDimensions → Ball → Side → Condition
+seen_region_condition None m g f b side = NoCondition
+seen_region_condition (Some p) None g f b side = NoCondition
+seen_region_condition (Some p) (Some m) g f b side = region_condition g.set_play f b (side_to_sign side g.sides) p m
 
 -- an unpenalised player of the side against which the kick is taken
 abbrev pub must_avoid : Game → Side → Penalty → Bool
 must_avoid g side penalty = is_avoidance_region_active g && is_side g.kicking_side (opponent side) && is_unpenalized penalty
 
 -- the condition by which a player that has to keep out of the region is in it
-unfoldable pub avoidance_condition : Game → FieldDimensions → Ball → Side → Player → MaybeMargins → Condition
+unfoldable pub avoidance_condition : Game → FieldDimensions → Ball → Side → Player → Option Margins → Condition
 avoidance_condition g f b side player m = first_of (must_avoid g side player.penalty) (seen_region_condition player.pose m g f b side) NoCondition
 
 -- a player that has to keep out of the region is in it: one of the three conditions is told
-unfoldable pub is_in_avoidance_region : Game → FieldDimensions → Ball → Side → Player → MaybeMargins → Bool
+unfoldable pub is_in_avoidance_region : Game → FieldDimensions → Ball → Side → Player → Option Margins → Bool
 is_in_avoidance_region g f b side player m = is_avoidance (avoidance_condition g f b side player m)

@@ -5,51 +5,27 @@ ghost use Rattle.std.specs.Prelude.{◌≡◌};
 ghost use Rattle.avoidance.specs.Avoidance as Spec;
 
 use conditions::Condition;
-use game::{
-    Ball, FieldDimensions, Game, Margins, MaybeMargins, MaybeSide, Player, PlayerPose, SeenPose,
-    SetPlay, Side,
-};
-
-// Whether there is a side.
-fn is_some(side: MaybeSide) -> bool
-    ensures { result ≡ Spec.is_some side }
-{
-    match side {
-        MaybeSide::NoSide => false,
-        MaybeSide::Of(_) => true,
-    }
-}
+use game::{Ball, FieldDimensions, Game, Margins, Player, PlayerPose, SetPlay, Side};
 
 // Whether a set play has an avoidance region: free kicks, goal kicks, corner kicks and throw-ins.
 fn has_avoidance_region(set_play: SetPlay) -> bool
     ensures { result ≡ Spec.has_avoidance_region set_play }
 {
-    match set_play {
-        SetPlay::NoSetPlay => false,
-        SetPlay::KickOff => false,
-        SetPlay::DirectFreeKick => true,
-        SetPlay::IndirectFreeKick => true,
-        SetPlay::PenaltyKick => false,
-        SetPlay::ThrowIn => true,
-        SetPlay::GoalKick => true,
-        SetPlay::CornerKick => true,
-    }
+    matches!(
+        set_play,
+        SetPlay::DirectFreeKick
+            | SetPlay::IndirectFreeKick
+            | SetPlay::ThrowIn
+            | SetPlay::GoalKick
+            | SetPlay::CornerKick
+    )
 }
 
 // Whether a set play is a goal kick.
 fn is_goal_kick(set_play: SetPlay) -> bool
     ensures { result ≡ Spec.is_goal_kick set_play }
 {
-    match set_play {
-        SetPlay::NoSetPlay => false,
-        SetPlay::KickOff => false,
-        SetPlay::DirectFreeKick => false,
-        SetPlay::IndirectFreeKick => false,
-        SetPlay::PenaltyKick => false,
-        SetPlay::ThrowIn => false,
-        SetPlay::GoalKick => true,
-        SetPlay::CornerKick => false,
-    }
+    set_play == SetPlay::GoalKick
 }
 
 // Whether the avoidance region of a free kick (goal kicks, corner kicks and throw-ins too) is in effect.
@@ -63,7 +39,7 @@ pub fn is_avoidance_region_active(game: Game) -> bool
     let set_play = game.set_play;
     let shootout = game::is_shootout(phase);
     let playing = game::is_playing(state);
-    let kicked = is_some(kicking_side);
+    let kicked = kicking_side.is_some();
     let region = has_avoidance_region(set_play);
     !shootout & playing & !game.stopped & kicked & region
 }
@@ -109,7 +85,7 @@ pub fn avoidance_condition(
     ball: Ball,
     side: Side,
     player: Player,
-    margins: MaybeMargins,
+    margins: Option<Margins>,
 ) -> Condition
     ensures { result ≡ Spec.avoidance_condition game field ball side player margins }
 {
@@ -125,10 +101,10 @@ pub fn avoidance_condition(
     if !(active & defending & unpenalized) {
         return Condition::NoCondition;
     }
-    let SeenPose::Present(p) = pose else {
+    let Some(p) = pose else {
         return Condition::NoCondition;
     };
-    let MaybeMargins::Known(m) = margins else {
+    let Some(m) = margins else {
         return Condition::NoCondition;
     };
     let sign = geometry::side_to_sign(side, sides);
@@ -143,7 +119,7 @@ pub fn is_in_avoidance_region(
     ball: Ball,
     side: Side,
     player: Player,
-    margins: MaybeMargins,
+    margins: Option<Margins>,
 ) -> bool
     ensures { result ≡ Spec.is_in_avoidance_region game field ball side player margins }
 {

@@ -22,9 +22,6 @@ use Rattle.game.specs.Game.{opponent, is_shootout}
 use Rattle.game.specs.declared.Ball.{Ball}
 use Rattle.game.specs.declared.FieldDimensions.{FieldDimensions}
 use Rattle.game.specs.declared.Game.{Game}
-use Rattle.game.specs.declared.MaybeRestart.{MaybeRestart}
-use Rattle.game.specs.declared.MaybeSide.{MaybeSide}
-use Rattle.game.specs.declared.MaybeSide.TheVariants.{NoSide, Of}
 use Rattle.game.specs.declared.Side.{Side}
 use Rattle.game.specs.declared.Side.TheVariants.{Home, Away}
 use Rattle.game.specs.declared.SideMapping.{SideMapping}
@@ -36,8 +33,9 @@ use Rattle.ball.specs.Ball.{judge_goal, past_goal_line, past_touchline, in_goal,
 use Rattle.ball.specs.Turned.{is_zero, is_none, is_in_play, is_between_halves, is_excepted}
 use Rattle.game.specs.declared.BallJudgment.{BallJudgment}
 use Rattle.game.specs.declared.BallJudgment.TheVariants.{NoJudgment, ThrowIn}
-use Rattle.ball.specs.declared.GoalJudgment.{GoalJudgment}
 use Rattle.ball.proofs.Sizes.{Sized, goal_line_edge, middle_inside}
+use Rattle.std.specs.Prelude.{Option, None, Some}
+use Rattle.game.specs.declared.Restart.{Restart}
 
 -- ---- where the ball is
 past_goal_line_changed : (a b : Bool) (f : FieldDimensions) (ball : Ball) → past_goal_line f (changed_ball a b ball) ≡ past_goal_line f ball
@@ -55,13 +53,13 @@ unfolding judge_shot
 shot_changed a b kicking sign f ball over =
     cc (past_goal_line_changed a b f ball, past_touchline_changed a b f ball, in_goal_changed a b f ball, team_changed a sign ball.x)
 
-shootout_changed : (a b : Bool) (kicking : MaybeSide) (sides : SideMapping) (f : FieldDimensions) (ball : Ball) (restart : MaybeRestart) (rested : Bool) → judge_shootout kicking (changed_ends a sides) f (changed_ball a b ball) restart rested ≡ judge_shootout kicking sides f ball restart rested
-shootout_changed a b NoSide sides f ball restart rested = refl
-shootout_changed a b (Of side) sides f ball restart rested =
+shootout_changed : (a b : Bool) (kicking : Option Side) (sides : SideMapping) (f : FieldDimensions) (ball : Ball) (restart : Option Restart) (rested : Bool) → judge_shootout kicking (changed_ends a sides) f (changed_ball a b ball) restart rested ≡ judge_shootout kicking sides f ball restart rested
+shootout_changed a b None sides f ball restart rested = refl
+shootout_changed a b (Some side) sides f ball restart rested =
     ap (λ (s : Float). judge_shot side s f (changed_ball a b ball) (shot_taken restart && rested)) (sign_changed a side sides)
     ∙ shot_changed a b side (side_to_sign side sides) f ball (shot_taken restart && rested)
 
-half_changed : (a b : Bool) (f : FieldDimensions) (ball : Ball) (goal : GoalJudgment) (contact : MaybeSide) (d : Side) → judge_half f (changed_ball a b ball) goal contact d ≡ judge_half f ball goal contact d
+half_changed : (a b : Bool) (f : FieldDimensions) (ball : Ball) (goal : Option BallJudgment) (contact : Option Side) (d : Side) → judge_half f (changed_ball a b ball) goal contact d ≡ judge_half f ball goal contact d
 unfolding judge_half
 half_changed a b f ball goal contact d = cc (past_goal_line_changed a b f ball, past_touchline_changed a b f ball, in_goal_changed a b f ball)
 
@@ -116,24 +114,24 @@ not_past f ball n m z = ap (lt (goal_line_edge f)) (alike_abs ball.x pos_zero (z
     plain = unfold with_sign in refl
 
 -- so that at most a throw-in is left
-at_touchline : (f : FieldDimensions) (ball : Ball) (goal : GoalJudgment) (contact : MaybeSide) (d : Side) → past_goal_line f ball ≡ false → judge_half f ball goal contact d ≡ cond (past_touchline f ball) (ThrowIn (throw_in_side contact d)) NoJudgment
+at_touchline : (f : FieldDimensions) (ball : Ball) (goal : Option BallJudgment) (contact : Option Side) (d : Side) → past_goal_line f ball ≡ false → judge_half f ball goal contact d ≡ cond (past_touchline f ball) (ThrowIn (throw_in_side contact d)) NoJudgment
 unfolding judge_half
 at_touchline f ball goal contact d e = simp e
 
 -- whose side does not matter unless it is past a touchline and nobody has touched it
-settled : (past : Bool) (contact : MaybeSide) (d d' : Side) → past && is_none contact ≡ false → cond past (ThrowIn (throw_in_side contact d)) NoJudgment ≡ cond past (ThrowIn (throw_in_side contact d')) NoJudgment
+settled : (past : Bool) (contact : Option Side) (d d' : Side) → past && is_none contact ≡ false → cond past (ThrowIn (throw_in_side contact d)) NoJudgment ≡ cond past (ThrowIn (throw_in_side contact d')) NoJudgment
 settled false contact d d' e = refl
-settled true (Of side) d d' e = refl
-settled true NoSide d d' e = absurd (subst T e tt)
+settled true (Some side) d d' e = refl
+settled true None d d' e = absurd (subst T e tt)
 
 -- ---- in play
-module _ (f : FieldDimensions) (contact : MaybeSide) (restart : MaybeRestart) (judged : Bool) (home away : ℕ) where
+module _ (f : FieldDimensions) (contact : Option Side) (restart : Option Restart) (judged : Bool) (home away : ℕ) where
   -- the judgment by the side in whose half the ball is
   abbrev by_half : Ball → Side → BallJudgment
   by_half ball d = judge_play d f ball contact restart judged home away
 
   -- and what becomes of a goal
-  abbrev goal_of : Side → GoalJudgment
+  abbrev goal_of : Side → Option BallJudgment
   goal_of d = judge_goal judged restart (opponent d) (players_of (opponent d) home away)
 
   by_half_changed : (a b : Bool) (ball : Ball) (d : Side) → by_half (changed_ball a b ball) d ≡ by_half ball d
@@ -167,7 +165,7 @@ unless true p q e h = sym (ap (λ (z : Bool). z && q) h) ∙ e
 unless false p q e h = refl
 
 -- the law: where x changes its sign, the exception is left out
-pub judgment_changed : (a b : Bool) (g : Game) (f : FieldDimensions) (ball : Ball) (contact : MaybeSide) (restart : MaybeRestart) (judged rested : Bool) (home away : ℕ) → Number binary32 ball.x → Sized f → a && is_excepted g f ball contact ≡ false → ball_judgment (changed_game a g) f (changed_ball a b ball) contact restart judged rested home away ≡ ball_judgment g f ball contact restart judged rested home away
+pub judgment_changed : (a b : Bool) (g : Game) (f : FieldDimensions) (ball : Ball) (contact : Option Side) (restart : Option Restart) (judged rested : Bool) (home away : ℕ) → Number binary32 ball.x → Sized f → a && is_excepted g f ball contact ≡ false → ball_judgment (changed_game a g) f (changed_ball a b ball) contact restart judged rested home away ≡ ball_judgment g f ball contact restart judged rested home away
 unfolding ball_judgment
 judgment_changed a b g f ball contact restart judged rested home away n s e =
     by_phase (is_running g) (is_shootout g.phase)
@@ -175,9 +173,9 @@ judgment_changed a b g f ball contact restart judged rested home away n s e =
     (λ h. play_changed f contact restart judged home away a b g.sides ball n (middle_inside f s) (unless a (is_in_play g) (is_between_halves f ball contact) e h))
 
 -- ---- the exception
-untouched : (contact : MaybeSide) → is_none contact ≡ true → contact ≡ NoSide
-untouched NoSide e = refl
-untouched (Of side) e = absurd (subst T (sym e) tt)
+untouched : (contact : Option Side) → is_none contact ≡ true → contact ≡ None
+untouched None e = refl
+untouched (Some side) e = absurd (subst T (sym e) tt)
 
 in_play : (running shootout : Bool) (j k k' : BallJudgment) → running && not shootout ≡ true → k ≡ k' → cond running (cond shootout j k) NoJudgment ≡ k'
 in_play true true j k k' e p = absurd (subst T (sym e) tt)
@@ -185,7 +183,7 @@ in_play true false j k k' e p = p
 in_play false shootout j k k' e p = absurd (subst T (sym e) tt)
 
 -- a throw-in for the side in whose half the ball is
-thrown : (g : Game) (f : FieldDimensions) (ball : Ball) (contact : MaybeSide) (restart : MaybeRestart) (judged rested : Bool) (home away : ℕ) → Number binary32 ball.x → Sized f → is_excepted g f ball contact ≡ true → ball_judgment g f ball contact restart judged rested home away ≡ ThrowIn (defending_side g.sides ball)
+thrown : (g : Game) (f : FieldDimensions) (ball : Ball) (contact : Option Side) (restart : Option Restart) (judged rested : Bool) (home away : ℕ) → Number binary32 ball.x → Sized f → is_excepted g f ball contact ≡ true → ball_judgment g f ball contact restart judged rested home away ≡ ThrowIn (defending_side g.sides ball)
 unfolding ball_judgment
 thrown g f ball contact restart judged rested home away n s e =
     let parts = both_true (is_in_play g) (is_between_halves f ball contact) e in
@@ -194,7 +192,7 @@ thrown g f ball contact restart judged rested home away n s e =
     let d = defending_side g.sides ball in
     in_play (is_running g) (is_shootout g.phase) (judge_shootout g.kicking_side g.sides f ball restart rested) (judge_play d f ball contact restart judged home away) (ThrowIn d) parts.0
     (at_touchline f ball (judge_goal judged restart (opponent d) (players_of (opponent d) home away)) contact d (not_past f ball n (middle_inside f s) out.0)
-    ∙ ap₂ (λ (p : Bool) (c : MaybeSide). cond p (ThrowIn (throw_in_side c d)) NoJudgment) out.1 (untouched contact place.1))
+    ∙ ap₂ (λ (p : Bool) (c : Option Side). cond p (ThrowIn (throw_in_side c d)) NoJudgment) out.1 (untouched contact place.1))
 
 -- a zero is on neither side, before and after the turn
 not_left : (x : Float) → Alike x pos_zero → lt zero32 x ≡ false
@@ -213,7 +211,7 @@ neg_zero x h = alike_eq (neg x) pos_zero zero32 pos_zero (neg_alike x h) (inl ze
     plain = unfold eq in refl
 
 -- the exception holds after the change too
-pub excepted_changed : (b : Bool) (g : Game) (f : FieldDimensions) (ball : Ball) (contact : MaybeSide) → Number binary32 ball.x → is_excepted g f ball contact ≡ true → is_excepted (changed_game true g) f (changed_ball true b ball) contact ≡ true
+pub excepted_changed : (b : Bool) (g : Game) (f : FieldDimensions) (ball : Ball) (contact : Option Side) → Number binary32 ball.x → is_excepted g f ball contact ≡ true → is_excepted (changed_game true g) f (changed_ball true b ball) contact ≡ true
 excepted_changed b g f ball contact n e =
     let parts = both_true (is_in_play g) (is_between_halves f ball contact) e in
     let place = both_true (is_zero ball.x && past_touchline f ball) (is_none contact) parts.1 in
@@ -221,7 +219,7 @@ excepted_changed b g f ball contact n e =
     simp (parts.0, neg_zero ball.x (zero_alike ball.x n out.0), past_touchline_changed true b f ball, out.1, place.1)
 
 -- where the change of x changes the judgment: both are throw-ins, for one side and for the other
-pub judgment_excepted : (b : Bool) (g : Game) (f : FieldDimensions) (ball : Ball) (contact : MaybeSide) (restart : MaybeRestart) (judged rested : Bool) (home away : ℕ) → Number binary32 ball.x → Sized f → is_excepted g f ball contact ≡ true → (ball_judgment g f ball contact restart judged rested home away ≡ ThrowIn (defending_side g.sides ball)) × (ball_judgment (changed_game true g) f (changed_ball true b ball) contact restart judged rested home away ≡ ThrowIn (opponent (defending_side g.sides ball)))
+pub judgment_excepted : (b : Bool) (g : Game) (f : FieldDimensions) (ball : Ball) (contact : Option Side) (restart : Option Restart) (judged rested : Bool) (home away : ℕ) → Number binary32 ball.x → Sized f → is_excepted g f ball contact ≡ true → (ball_judgment g f ball contact restart judged rested home away ≡ ThrowIn (defending_side g.sides ball)) × (ball_judgment (changed_game true g) f (changed_ball true b ball) contact restart judged rested home away ≡ ThrowIn (opponent (defending_side g.sides ball)))
 judgment_excepted b g f ball contact restart judged rested home away n s e =
     let parts = both_true (is_in_play g) (is_between_halves f ball contact) e in
     let place = both_true (is_zero ball.x && past_touchline f ball) (is_none contact) parts.1 in
@@ -236,7 +234,7 @@ two_sides Home e = let z : ◌≡◌ {A = ℕ} 0 1 = cc in omega arith
 two_sides Away e = let z : ◌≡◌ {A = ℕ} 0 1 = cc in omega arith
 
 -- so that they are not equal: with `judgment_changed`, the judgments are equal if and only if it is not the exception
-pub judgment_differs : (a b : Bool) (g : Game) (f : FieldDimensions) (ball : Ball) (contact : MaybeSide) (restart : MaybeRestart) (judged rested : Bool) (home away : ℕ) → Number binary32 ball.x → Sized f → a && is_excepted g f ball contact ≡ true → ball_judgment (changed_game a g) f (changed_ball a b ball) contact restart judged rested home away ≡ ball_judgment g f ball contact restart judged rested home away → ⊥
+pub judgment_differs : (a b : Bool) (g : Game) (f : FieldDimensions) (ball : Ball) (contact : Option Side) (restart : Option Restart) (judged rested : Bool) (home away : ℕ) → Number binary32 ball.x → Sized f → a && is_excepted g f ball contact ≡ true → ball_judgment (changed_game a g) f (changed_ball a b ball) contact restart judged rested home away ≡ ball_judgment g f ball contact restart judged rested home away → ⊥
 judgment_differs true b g f ball contact restart judged rested home away n s e same =
     let two = judgment_excepted b g f ball contact restart judged rested home away n s e in
     two_sides (defending_side g.sides ball) (sym two.0 ∙ sym same ∙ two.1)

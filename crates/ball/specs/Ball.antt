@@ -1,5 +1,5 @@
 -- What is called when the ball leaves the field: binary32, each operation rounded once. Definitions only.
-use Rattle.std.specs.Prelude.{Bool, true, false, not, cond, ◌&&◌, ◌||◌, ℕ, leb, Float}
+use Rattle.std.specs.Prelude.{Bool, true, false, not, cond, ◌&&◌, ◌||◌, ℕ, leb, Float, Option, None, Some}
 use Rattle.std.specs.Float.Ieee.{lt}
 use Rattle.floats.specs.Arithmetic.{◌+₃₂◌, ◌*₃₂◌, zero32, half}
 use Rattle.floats.specs.Leaves.{abs}
@@ -7,12 +7,6 @@ use Rattle.game.specs.Game.{opponent, same_side, is_side, is_shootout, is_playin
 use Rattle.game.specs.declared.Ball.{Ball}
 use Rattle.game.specs.declared.FieldDimensions.{FieldDimensions}
 use Rattle.game.specs.declared.Game.{Game}
-use Rattle.game.specs.declared.MaybeNumber.{MaybeNumber}
-use Rattle.game.specs.declared.MaybeNumber.TheVariants.{NoNumber, Number}
-use Rattle.game.specs.declared.MaybeRestart.{MaybeRestart}
-use Rattle.game.specs.declared.MaybeRestart.TheVariants.{NoRestart, InEffect}
-use Rattle.game.specs.declared.MaybeSide.{MaybeSide}
-use Rattle.game.specs.declared.MaybeSide.TheVariants.{NoSide, Of}
 use Rattle.game.specs.declared.Restart.{Restart}
 use Rattle.game.specs.declared.RestartKind.{RestartKind}
 use Rattle.game.specs.declared.RestartKind.TheVariants.{KickOff, Indirect, Direct, PenaltyShot}
@@ -23,8 +17,6 @@ use Rattle.game.specs.declared.SideMapping.TheVariants.{HomeDefendsLeftGoal, Hom
 use Rattle.geometry.specs.Geometry.{side_to_sign}
 use Rattle.game.specs.declared.BallJudgment.{BallJudgment}
 use Rattle.game.specs.declared.BallJudgment.TheVariants.{NoJudgment, Goal, GoalKick, CornerKick, ThrowIn, EndOfPenaltyShot}
-use Rattle.ball.specs.declared.GoalJudgment.{GoalJudgment}
-use Rattle.ball.specs.declared.GoalJudgment.TheVariants.{ValidGoal, Instead}
 
 -- ---- goals
 -- A team may score before another player has touched the ball: from a kick-off with at most two players on the field, once its kicker touched the ball outside the center circle,
@@ -43,26 +35,26 @@ is_penalty_shot Direct = false
 is_penalty_shot PenaltyShot = true
 
 -- a team may not score an own goal directly from its restart, a penalty shot aside: the other side has a corner kick
-abbrev pub judge_own_goal : RestartKind → Side → GoalJudgment
-judge_own_goal kind scoring = cond (is_penalty_shot kind) ValidGoal (Instead (CornerKick scoring))
+abbrev pub judge_own_goal : RestartKind → Side → Option BallJudgment
+judge_own_goal kind scoring = cond (is_penalty_shot kind) None (Some (CornerKick scoring))
 
 -- Once another player has touched the ball, every goal counts. Before, an own goal and a goal of a team that may not score do not.
-unfoldable pub judge_restart_goal : Restart → Side → ℕ → GoalJudgment
+unfoldable pub judge_restart_goal : Restart → Side → ℕ → Option BallJudgment
 judge_restart_goal r scoring players =
-    cond r.other_touch ValidGoal
+    cond r.other_touch None
     (cond (same_side r.side (opponent scoring)) (judge_own_goal r.kind scoring)
-    (cond (may_score r.kind r players) ValidGoal (Instead (GoalKick (opponent scoring)))))
+    (cond (may_score r.kind r players) None (Some (GoalKick (opponent scoring)))))
 
 -- a goal for a side, where the Bool tells whether invalid goals are judged at all
-abbrev pub judge_goal : Bool → MaybeRestart → Side → ℕ → GoalJudgment
-judge_goal false r scoring players = ValidGoal
-judge_goal true NoRestart scoring players = ValidGoal
-judge_goal true (InEffect r) scoring players = judge_restart_goal r scoring players
+abbrev pub judge_goal : Bool → Option Restart → Side → ℕ → Option BallJudgment
+judge_goal false r scoring players = None
+judge_goal true None scoring players = None
+judge_goal true (Some r) scoring players = judge_restart_goal r scoring players
 
 -- a goal, or what is called in its stead
-abbrev pub goal_or_instead : GoalJudgment → Side → BallJudgment
-goal_or_instead ValidGoal scoring = Goal scoring
-goal_or_instead (Instead j) scoring = j
+abbrev pub goal_or_instead : Option BallJudgment → Side → BallJudgment
+goal_or_instead None scoring = Goal scoring
+goal_or_instead (Some j) scoring = j
 
 -- ---- where the ball is
 -- the whole ball is past a goal line: strictly beyond half the length and the ball's radius
@@ -90,18 +82,18 @@ defending_side sides b = defender_of sides (lt zero32 b.x)
 
 -- ---- in a penalty shoot-out
 -- somebody has kicked
-abbrev pub has_kicker : MaybeNumber → Bool
-has_kicker NoNumber = false
-has_kicker (Number n) = true
+abbrev pub has_kicker : Option ℕ → Bool
+has_kicker None = false
+has_kicker (Some n) = true
 
 -- a penalty shot that was taken
 abbrev pub is_taken_shot : Restart → Bool
 is_taken_shot r = is_penalty_shot r.kind && has_kicker r.kicker
 
 -- a penalty shot is in effect, and it was taken
-abbrev pub shot_taken : MaybeRestart → Bool
-shot_taken NoRestart = false
-shot_taken (InEffect r) = is_taken_shot r
+abbrev pub shot_taken : Option Restart → Bool
+shot_taken None = false
+shot_taken (Some r) = is_taken_shot r
 
 -- A goal for the kicking side if the ball is in the goal that it kicks at, which is at positive x of its team. Else the shot ends once the ball is out or the shot is over.
 unfoldable pub judge_shot : Side → Float → FieldDimensions → Ball → Bool → BallJudgment
@@ -109,9 +101,9 @@ judge_shot kicking sign f b over =
     cond (past_goal_line f b && lt zero32 (sign *₃₂ b.x) && in_goal f b) (Goal kicking) (cond (past_goal_line f b || past_touchline f b || over) EndOfPenaltyShot NoJudgment)
 
 -- none without a kicking side; a shot is over when the ball has rested after it was taken
-abbrev pub judge_shootout : MaybeSide → SideMapping → FieldDimensions → Ball → MaybeRestart → Bool → BallJudgment
-judge_shootout NoSide sides f b r rested = NoJudgment
-judge_shootout (Of kicking) sides f b r rested = judge_shot kicking (side_to_sign kicking sides) f b (shot_taken r && rested)
+abbrev pub judge_shootout : Option Side → SideMapping → FieldDimensions → Ball → Option Restart → Bool → BallJudgment
+judge_shootout None sides f b r rested = NoJudgment
+judge_shootout (Some kicking) sides f b r rested = judge_shot kicking (side_to_sign kicking sides) f b (shot_taken r && rested)
 
 -- ---- in play
 -- the players of a side on the field
@@ -120,25 +112,25 @@ players_of Home home away = home
 players_of Away home away = away
 
 -- past the goal line beside the goal: a corner kick if the defending side touched the ball last, else a goal kick
-abbrev pub goal_line_restart : MaybeSide → Side → BallJudgment
+abbrev pub goal_line_restart : Option Side → Side → BallJudgment
 goal_line_restart contact defending = cond (is_side contact defending) (CornerKick (opponent defending)) (GoalKick defending)
 
 -- the opponents of the side that touched the ball last throw in; if none did, the side in whose half the ball is
-abbrev pub throw_in_side : MaybeSide → Side → Side
-throw_in_side NoSide defending = defending
-throw_in_side (Of side) defending = opponent side
+abbrev pub throw_in_side : Option Side → Side → Side
+throw_in_side None defending = defending
+throw_in_side (Some side) defending = opponent side
 
 -- past the goal line: in the goal, which counts for the opponents of the defending side, or beside it
-abbrev pub judge_goal_line : Bool → GoalJudgment → MaybeSide → Side → BallJudgment
+abbrev pub judge_goal_line : Bool → Option BallJudgment → Option Side → Side → BallJudgment
 judge_goal_line inside goal contact defending = cond inside (goal_or_instead goal (opponent defending)) (goal_line_restart contact defending)
 
 -- past the goal line, else past a touchline, else nothing
-unfoldable pub judge_half : FieldDimensions → Ball → GoalJudgment → MaybeSide → Side → BallJudgment
+unfoldable pub judge_half : FieldDimensions → Ball → Option BallJudgment → Option Side → Side → BallJudgment
 judge_half f b goal contact defending =
     cond (past_goal_line f b) (judge_goal_line (in_goal f b) goal contact defending) (cond (past_touchline f b) (ThrowIn (throw_in_side contact defending)) NoJudgment)
 
 -- by the side in whose half the ball is
-abbrev pub judge_play : Side → FieldDimensions → Ball → MaybeSide → MaybeRestart → Bool → ℕ → ℕ → BallJudgment
+abbrev pub judge_play : Side → FieldDimensions → Ball → Option Side → Option Restart → Bool → ℕ → ℕ → BallJudgment
 judge_play defending f b contact restart judged home away =
     judge_half f b (judge_goal judged restart (opponent defending) (players_of (opponent defending) home away)) contact defending
 
@@ -148,7 +140,7 @@ abbrev pub is_running : Game → Bool
 is_running g = is_playing g.state && not g.stopped
 
 -- what is called; `judged` tells whether invalid goals are judged, `rested` whether the ball has rested since the kick
-unfoldable pub ball_judgment : Game → FieldDimensions → Ball → MaybeSide → MaybeRestart → Bool → Bool → ℕ → ℕ → BallJudgment
+unfoldable pub ball_judgment : Game → FieldDimensions → Ball → Option Side → Option Restart → Bool → Bool → ℕ → ℕ → BallJudgment
 unfolding judge_shot judge_half judge_restart_goal
 ball_judgment g f b contact restart judged rested home away =
     cond (is_running g) (cond (is_shootout g.phase) (judge_shootout g.kicking_side g.sides f b restart rested) (judge_play (defending_side g.sides b) f b contact restart judged home away)) NoJudgment

@@ -5,17 +5,7 @@ ghost use Rattle.std.specs.Prelude.{◌≡◌};
 ghost use Rattle.game.specs.Game.{opponent};
 ghost use Rattle.ball.specs.Ball as Spec;
 
-use game::{
-    Ball, BallJudgment, FieldDimensions, Game, MaybeNumber, MaybeRestart, MaybeSide, Restart,
-    RestartKind, Side, SideMapping,
-};
-
-// Whether a goal counts, or what is called in its stead.
-#[derive(Clone, Copy)]
-pub enum GoalJudgment {
-    ValidGoal,
-    Instead(BallJudgment),
-}
+use game::{Ball, BallJudgment, FieldDimensions, Game, Restart, RestartKind, Side, SideMapping};
 
 // Whether a team may score before another player has touched the ball. From a kick-off a team with at most two players may, once its kicker, with the first touch or a later one, has touched
 // the ball outside the center circle; from an indirect restart, once it has touched it again far from the kick, which the Restart record tells of small teams alone.
@@ -37,44 +27,41 @@ fn may_score(restart: Restart, players_of_scoring_side: usize) -> bool
 fn is_penalty_shot(kind: RestartKind) -> bool
     ensures { result ≡ Spec.is_penalty_shot kind }
 {
-    match kind {
-        RestartKind::PenaltyShot => true,
-        _ => false,
-    }
+    kind == RestartKind::PenaltyShot
 }
 
-// Whether a goal for a side is valid, given the restart that is in effect and whether invalid goals are judged at all.
+// What is called in place of a goal for a side, none where the goal is valid, given the restart that is in effect and whether invalid goals are judged at all.
 #[tactic(auto, unfolding(crate::specs::Ball::judge_restart_goal))]
 pub fn judge_goal(
     invalid_goals_judged: bool,
-    restart: MaybeRestart,
+    restart: Option<Restart>,
     scoring_side: Side,
     players_of_scoring_side: usize,
-) -> GoalJudgment
+) -> Option<BallJudgment>
     ensures { result ≡ Spec.judge_goal invalid_goals_judged restart scoring_side players_of_scoring_side }
 {
     if !invalid_goals_judged {
-        return GoalJudgment::ValidGoal;
+        return None;
     }
     match restart {
-        MaybeRestart::NoRestart => GoalJudgment::ValidGoal,
-        MaybeRestart::InEffect(r) => {
+        None => None,
+        Some(r) => {
             let kind = r.kind;
             let restart_side = r.side;
             if r.other_touch {
-                return GoalJudgment::ValidGoal;
+                return None;
             }
             let defending_side = game::opponent(scoring_side);
             if game::same_side(restart_side, defending_side) {
                 if is_penalty_shot(kind) {
-                    return GoalJudgment::ValidGoal;
+                    return None;
                 }
-                return GoalJudgment::Instead(BallJudgment::CornerKick(scoring_side));
+                return Some(BallJudgment::CornerKick(scoring_side));
             }
             if may_score(r, players_of_scoring_side) {
-                return GoalJudgment::ValidGoal;
+                return None;
             }
-            GoalJudgment::Instead(BallJudgment::GoalKick(defending_side))
+            Some(BallJudgment::GoalKick(defending_side))
         }
     }
 }
@@ -115,18 +102,18 @@ fn defender_of(sides: SideMapping, left: bool) -> Side
 }
 
 // Whether there is a penalty shot that was taken.
-fn is_shot_taken(restart: MaybeRestart) -> bool
+fn is_shot_taken(restart: Option<Restart>) -> bool
     ensures { result ≡ Spec.shot_taken restart }
 {
     match restart {
-        MaybeRestart::NoRestart => false,
-        MaybeRestart::InEffect(r) => {
+        None => false,
+        Some(r) => {
             let kind = r.kind;
             let kicker = r.kicker;
             let penalty_shot = is_penalty_shot(kind);
             match kicker {
-                MaybeNumber::NoNumber => false,
-                MaybeNumber::Number(_) => penalty_shot,
+                None => false,
+                Some(_) => penalty_shot,
             }
         }
     }
@@ -135,18 +122,18 @@ fn is_shot_taken(restart: MaybeRestart) -> bool
 // The judgment in a penalty shoot-out, where there is a kicking side: a goal, or the end of the shot once the ball is out or has come to rest.
 #[tactic(auto, unfolding(crate::specs::Ball::judge_shot))]
 fn judge_shootout(
-    kicking_side: MaybeSide,
+    kicking_side: Option<Side>,
     sides: SideMapping,
     field: FieldDimensions,
     ball: Ball,
-    restart: MaybeRestart,
+    restart: Option<Restart>,
     ball_rested: bool,
 ) -> BallJudgment
     ensures { result ≡ Spec.judge_shootout kicking_side sides field ball restart ball_rested }
 {
     match kicking_side {
-        MaybeSide::NoSide => BallJudgment::NoJudgment,
-        MaybeSide::Of(side) => {
+        None => BallJudgment::NoJudgment,
+        Some(side) => {
             let sign = geometry::side_to_sign(side, sides);
             let past_goal_line = is_past_goal_line(field, ball);
             let past_touchline = is_past_touchline(field, ball);
@@ -170,8 +157,8 @@ fn judge_play(
     attacking_players: usize,
     field: FieldDimensions,
     ball: Ball,
-    last_contact: MaybeSide,
-    restart: MaybeRestart,
+    last_contact: Option<Side>,
+    restart: Option<Restart>,
     invalid_goals_judged: bool,
 ) -> BallJudgment
     ensures { result ≡ Spec.judge_half field ball (Spec.judge_goal invalid_goals_judged restart (opponent defending_side) attacking_players) last_contact defending_side }
@@ -190,8 +177,8 @@ fn judge_play(
                 attacking_players,
             );
             return match goal {
-                GoalJudgment::ValidGoal => BallJudgment::Goal(attacking_side),
-                GoalJudgment::Instead(judgment) => judgment,
+                None => BallJudgment::Goal(attacking_side),
+                Some(judgment) => judgment,
             };
         }
         if own {
@@ -201,8 +188,8 @@ fn judge_play(
     }
     if past_touchline {
         return match last_contact {
-            MaybeSide::NoSide => BallJudgment::ThrowIn(defending_side),
-            MaybeSide::Of(side) => BallJudgment::ThrowIn(game::opponent(side)),
+            None => BallJudgment::ThrowIn(defending_side),
+            Some(side) => BallJudgment::ThrowIn(game::opponent(side)),
         };
     }
     BallJudgment::NoJudgment
@@ -215,8 +202,8 @@ pub fn check_ball_out(
     game: Game,
     field: FieldDimensions,
     ball: Ball,
-    last_contact: MaybeSide,
-    restart: MaybeRestart,
+    last_contact: Option<Side>,
+    restart: Option<Restart>,
     invalid_goals_judged: bool,
     ball_rested: bool,
     home_players: usize,

@@ -12,8 +12,6 @@ use Rattle.floats.proofs.Laws.Order.{le_numbers}
 use Rattle.game.specs.Players.{team_of, player_numbered}
 use Rattle.game.specs.declared.Placement.TheVariants.{NoPlace}
 use Rattle.game.specs.declared.PlayerPose.{PlayerPose}
-use Rattle.game.specs.declared.SeenPose.{SeenPose}
-use Rattle.game.specs.declared.SeenPose.TheVariants.{Absent, Present}
 use Rattle.game.specs.declared.Side.{Side}
 use Rattle.game.specs.declared.Situation.{Situation}
 use Rattle.game.specs.declared.Wish.{Wish}
@@ -29,6 +27,7 @@ use Rattle.refusals.proofs.Accepted.{Accepted, accepted, field_ranges, numbered_
 use Rattle.words.specs.Words.{pose_at, field_of, situation_of}
 use Rattle.words.proofs.Fits.{float_fits, numbered_poses}
 use Rattle.bounds_hold.specs.Bounds.{InOrder, PenaltyBounds, space_at, PlacedAmongAll, BoundsHold, FloatsFit, HoldsOfAccepted, HoldsOfWords}
+use Rattle.std.specs.Prelude.{Option, None, Some}
 
 -- what compares is a number
 in_order : (lo hi : Float) → le lo hi ≡ true → InOrder lo hi
@@ -44,10 +43,10 @@ module _ (s : Situation) (xs ys : List Float) (fit : FloatsFit s) (e : refusal_o
   a = accepted s xs ys e
 
   -- the wished player's radius
-  wished_radius : (side : Side) (number : ℕ) (p : PlayerPose) → s.wish ≡ ForPenalty side number → (player_numbered (team_of s side) number).pose ≡ Present p → is_radius p.radius ≡ true
+  wished_radius : (side : Side) (number : ℕ) (p : PlayerPose) → s.wish ≡ ForPenalty side number → (player_numbered (team_of s side) number).pose ≡ Some p → is_radius p.radius ≡ true
   wished_radius side number p w h =
       pose_radius p
-      (subst (λ (q : SeenPose). seen_fits q ≡ true) h
+      (subst (λ (q : Option PlayerPose). seen_fits q ≡ true) h
       (numbered_fits (team_of s side) (team_fits_holds s xs ys a side) number (subst (λ (v : Wish). wish_fits v ≡ true) w (wished_fits s xs ys a))))
 
   candidate_sizes : (r : Float) → T (fits binary32 r) → is_radius r ≡ true → CandidateSizes s.field r s.penalty_placement_distance
@@ -104,7 +103,7 @@ module _ (s : Situation) (xs ys : List Float) (fit : FloatsFit s) (e : refusal_o
       let lists = right_true (team_fits s.home && team_fits s.away) (lists_fit xs ys) a.poses_fit_holds in
       left_true (eqb (length xs) (length ys)) (leb (length xs) 4096) (left_true _ (places_fit xs) (left_true _ (places_fit ys) lists))
 
-  module _ (side : Side) (number : ℕ) (p : PlayerPose) (w : s.wish ≡ ForPenalty side number) (h : (player_numbered (team_of s side) number).pose ≡ Present p) where
+  module _ (side : Side) (number : ℕ) (p : PlayerPose) (w : s.wish ≡ ForPenalty side number) (h : (player_numbered (team_of s side) number).pose ≡ Some p) where
     wished_sizes : CandidateSizes s.field p.radius s.penalty_placement_distance
     wished_sizes = candidate_sizes p.radius (fit.radius side number p h) (wished_radius side number p w h)
 
@@ -120,7 +119,7 @@ module _ (s : Situation) (xs ys : List Float) (fit : FloatsFit s) (e : refusal_o
           meant = place_meant f p.radius d wished_sizes (space_at s xs ys side number p);
           placed =
               ap (λ (b : Bool). cond b (seen_place f d sign (player_numbered (team_of s side) number).pose spots side number) NoPlace) paired
-              ∙ ap (λ (q : SeenPose). seen_place f d sign q spots side number) h;
+              ∙ ap (λ (q : Option PlayerPose). seen_place f d sign q spots side number) h;
         }
 
   holds : BoundsHold s xs ys
@@ -137,9 +136,9 @@ holds_of_accepted = holds
 
 -- ---- a situation in words
 -- the radius of a pose, where there is one
-abbrev RadiusFits : SeenPose → Type 0
-RadiusFits Absent = T true
-RadiusFits (Present p) = T (fits binary32 p.radius)
+abbrev RadiusFits : Option PlayerPose → Type 0
+RadiusFits None = T true
+RadiusFits (Some p) = T (fits binary32 p.radius)
 
 words_fit : (w : List ℕ) → FloatsFit (situation_of w)
 unfolding situation_of field_of pose_at

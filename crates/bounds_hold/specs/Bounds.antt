@@ -1,6 +1,6 @@
 -- What is claimed of an accepted situation: the bounds that the candidates of a penalty place and the two clamps get are in order, nothing that the candidates are asked for is
 -- refused, and the wished player is placed at the one of all candidates that is meant. Definitions only.
-use Rattle.std.specs.Prelude.{◌≡◌, false, true, List, ℕ, T, Float}
+use Rattle.std.specs.Prelude.{◌≡◌, false, true, List, ℕ, T, Float, Some}
 use Rattle.std.specs.Float.{binary32}
 use Rattle.std.specs.Float.Ieee.{neg, le, fits, is_nan}
 use Rattle.floats.specs.Arithmetic.{◌*₃₂◌, one}
@@ -8,7 +8,6 @@ use Rattle.game.specs.Players.{team_of, player_numbered}
 use Rattle.game.specs.declared.FieldDimensions.{FieldDimensions}
 use Rattle.game.specs.declared.Placement.TheVariants.{PlayerAt}
 use Rattle.game.specs.declared.PlayerPose.{PlayerPose}
-use Rattle.game.specs.declared.SeenPose.TheVariants.{Present}
 use Rattle.game.specs.declared.Side.{Side}
 use Rattle.game.specs.declared.Situation.{Situation}
 use Rattle.game.specs.declared.Wish.TheVariants.{ForPenalty}
@@ -48,9 +47,9 @@ pub record PlacedAmongAll (s : Situation) (xs ys : List Float) (side : Side) (nu
 
 -- of a situation: the wished player, where it is present, the throw-in's clamp, and that of a goalkeeper with any pose
 pub record BoundsHold (s : Situation) (xs ys : List Float) : Type 0 where
-  pub candidates : (side : Side) (number : ℕ) (p : PlayerPose) → s.wish ≡ ForPenalty side number → (player_numbered (team_of s side) number).pose ≡ Present p
+  pub candidates : (side : Side) (number : ℕ) (p : PlayerPose) → s.wish ≡ ForPenalty side number → (player_numbered (team_of s side) number).pose ≡ Some p
       → PenaltyBounds s.field s.penalty_placement_distance p.radius
-  pub place : (side : Side) (number : ℕ) (p : PlayerPose) → s.wish ≡ ForPenalty side number → (player_numbered (team_of s side) number).pose ≡ Present p → PlacedAmongAll s xs ys side number p
+  pub place : (side : Side) (number : ℕ) (p : PlayerPose) → s.wish ≡ ForPenalty side number → (player_numbered (team_of s side) number).pose ≡ Some p → PlacedAmongAll s xs ys side number p
   pub throw_in : InOrder (neg (goal_line_x s.field)) (goal_line_x s.field)
   pub goalkeeper : (p : PlayerPose) → InOrder (neg (post_y s.field p)) (post_y s.field p)
 
@@ -61,7 +60,7 @@ pub record FloatsFit (s : Situation) : Type 0 where
   pub mark : T (fits binary32 s.field.penalty_mark_distance)
   pub line : T (fits binary32 s.field.line_width)
   pub distance : T (fits binary32 s.penalty_placement_distance)
-  pub radius : (side : Side) (number : ℕ) (p : PlayerPose) → (player_numbered (team_of s side) number).pose ≡ Present p → T (fits binary32 p.radius)
+  pub radius : (side : Side) (number : ℕ) (p : PlayerPose) → (player_numbered (team_of s side) number).pose ≡ Some p → T (fits binary32 p.radius)
 
 -- of every situation with such floats that is accepted
 abbrev pub HoldsOfAccepted : Type 0

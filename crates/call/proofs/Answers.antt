@@ -8,17 +8,20 @@ use borrow.Author.Tests.{eq-eqb, ne_eqb}
 use lib.Dec.{eqb, ltb}
 use lib.Ieee.{Float}
 use lib.ListN.{length}
+use Rattle.std.specs.Prelude.{⊤, Result, Ok, Err}
 use Rattle.lists.specs.Put.{fronted_into}
 use Rattle.lists.specs.Refusals.{Requirement, first_refusal, all_numbered}
 use Rattle.lists.proofs.Refusals.{refusal_append}
 use Rattle.game.specs.declared.Decision.{Decision}
 use Rattle.game.specs.declared.Situation.{Situation}
+use Rattle.refusal.specs.Refusal.{refused, unless_refused}
+use Rattle.refusal.specs.declared.Refusal.{Refusal}
+use Rattle.refusal.specs.declared.Refusal.TheVariants.{Display}
+use Rattle.refusal.proofs.Told.{not_refused, refused_by}
 use Rattle.refusals.specs.Refusals.{requirements_of, refusal_of}
 use Rattle.decision.specs.Decision.{decision_of}
 use Rattle.sheet.specs.Rows.{rows_of}
 use Rattle.sheet.specs.Sheet.{bytes_in, text_of, decision_answer, decision_sheet}
-use Rattle.sheet.specs.declared.text.SheetAnswer.{SheetAnswer}
-use Rattle.sheet.specs.declared.text.SheetAnswer.TheVariants.{Refused, Written}
 use Rattle.sheet.proofs.Texts.{call_answer, call_after, answer_by, after_by, call_refused, call_accepted, call_room}
 use Rattle.call.specs.declared.SheetFor.{SheetFor}
 use Rattle.call.specs.Call.{shows, lines_for, call_requirements, sheet_answer, sheet_after}
@@ -60,10 +63,10 @@ module _ (to : SheetFor) (s : Situation) (xs ys : List Float) where
 
   -- the answer, by whether 1 to 5 or 12 refuses, and by the test of the lent bytes
   pub answer_cases : (lent : ℕ) → sheet_answer to s xs ys lent
-      ≡ cond (eqb refusal_for 0) (cond (ltb lent (length (text_of (decision_of s xs ys)))) (Refused 7) (Written (length (text_of (decision_of s xs ys))))) (Refused refusal_for)
+      ≡ cond (eqb refusal_for 0) (cond (ltb lent (length (text_of (decision_of s xs ys)))) (refused 7) (Ok (length (text_of (decision_of s xs ys))))) (refused refusal_for)
   answer_cases lent =
       let text = text_of (decision_of s xs ys) in
-      answer_as lent ∙ answer_by before_room 7 text numbered refl lent ∙ ap (λ (n : ℕ). cond (eqb n 0) (cond (ltb lent (length text)) (Refused 7) (Written (length text))) (Refused n)) first_told
+      answer_as lent ∙ answer_by before_room 7 text numbered refl lent ∙ ap (λ (n : ℕ). cond (eqb n 0) (cond (ltb lent (length text)) (refused 7) (Ok (length text))) (refused n)) first_told
 
   -- the bytes
   pub after_told : (sheet : List ℕ) → sheet_after to s xs ys sheet ≡ cond (eqb refusal_for 0) (decision_sheet (decision_of s xs ys) sheet) sheet
@@ -74,7 +77,7 @@ module _ (to : SheetFor) (s : Situation) (xs ys : List Float) where
 
   -- no more bytes are written than were lent
   pub sheet_room : (lent : ℕ) → bytes_in (sheet_answer to s xs ys lent) ≤ lent
-  sheet_room lent = subst (λ (a : SheetAnswer). bytes_in a ≤ lent) (sym (answer_as lent)) (call_room before_room 7 (text_of (decision_of s xs ys)) numbered refl lent)
+  sheet_room lent = subst (λ (a : Result ℕ Refusal). bytes_in a ≤ lent) (sym (answer_as lent)) (call_room before_room 7 (text_of (decision_of s xs ys)) numbered refl lent)
 
   -- ---- the first of 1 to 5 and 12, case by case
   pub first_of_five : (refusal_of s xs ys ≡ 0 → ⊥) → refusal_for ≡ refusal_of s xs ys
@@ -91,30 +94,36 @@ module _ (to : SheetFor) (s : Situation) (xs ys : List Float) where
   none_refused = by_lines true
 
   -- ---- what the call answers and leaves where it is refused before 7
-  pub refused_before : (n : ℕ) (sheet : List ℕ) → n ≡ refusal_for → (n ≡ 0 → ⊥) → (Refused n ≡ sheet_answer to s xs ys (length sheet)) × (sheet ≡ sheet_after to s xs ys sheet)
+  pub refused_before : (n : ℕ) (sheet : List ℕ) → n ≡ refusal_for → (n ≡ 0 → ⊥) → (refused n ≡ sheet_answer to s xs ys (length sheet)) × (sheet ≡ sheet_after to s xs ys sheet)
   refused_before n sheet e h =
       let told = call_refused before_room 7 (text_of (decision_of s xs ys)) numbered refl n sheet (e ∙ sym first_told) h in
       (told.0 ∙ sym (answer_as (length sheet)), told.1 ∙ sym (after_as sheet))
 
 -- ---- what the code leaves
-module _ (to : SheetFor) (s : Situation) (xs ys : List Float) (n : ℕ) (told : n ≡ refusal_of s xs ys) where
+module _ (to : SheetFor) (s : Situation) (xs ys : List Float) where
   -- the situation was refused
-  pub sheet_refused : (sheet : List ℕ) → (n ≡ 0 → ⊥) → (Refused n ≡ sheet_answer to s xs ys (length sheet)) × (sheet ≡ sheet_after to s xs ys sheet)
-  sheet_refused sheet h = refused_before to s xs ys n sheet (told ∙ sym (first_of_five to s xs ys (λ e. h (told ∙ e)))) h
+  pub sheet_refused : (r : Refusal) (sheet : List ℕ) → ◌≡◌ {A = Result ⊤ Refusal} (Err r) (unless_refused (refusal_of s xs ys) tt) → (Err r ≡ sheet_answer to s xs ys (length sheet)) × (sheet ≡ sheet_after to s xs ys sheet)
+  sheet_refused r sheet e =
+      let h = refused_by (refusal_of s xs ys) tt r e in
+      let told = refused_before to s xs ys (refusal_of s xs ys) sheet (sym (first_of_five to s xs ys h.0)) h.0 in
+      (ap Err h.1 ∙ told.0, told.1)
 
-  module _ (d : Decision) (decided : d ≡ decision_of s xs ys) (h : n ≡ 0) where
+  module _ (d : Decision) (decided : d ≡ decision_of s xs ys) (accepted : ◌≡◌ {A = Result ⊤ Refusal} (Ok tt) (unless_refused (refusal_of s xs ys) tt)) where
+    none : refusal_of s xs ys ≡ 0
+    none = (not_refused (refusal_of s xs ys) tt tt accepted).0
+
     shown_as : (b : Bool) → shows to (length (rows_of d)) ≡ b → shows to (length (rows_of (decision_of s xs ys))) ≡ b
     shown_as b e = ap (λ (z : Decision). shows to (length (rows_of z))) (sym decided) ∙ e
 
     -- it was not, but its lines are too many
-    pub sheet_not_shown : (sheet : List ℕ) → shows to (length (rows_of d)) ≡ false → (Refused 12 ≡ sheet_answer to s xs ys (length sheet)) × (sheet ≡ sheet_after to s xs ys sheet)
-    sheet_not_shown sheet e = refused_before to s xs ys 12 sheet (sym (twelve to s xs ys (sym told ∙ h) (shown_as false e))) (λ z. omega (arith, z))
+    pub sheet_not_shown : (sheet : List ℕ) → shows to (length (rows_of d)) ≡ false → (Err Display ≡ sheet_answer to s xs ys (length sheet)) × (sheet ≡ sheet_after to s xs ys sheet)
+    sheet_not_shown sheet e = refused_before to s xs ys 12 sheet (sym (twelve to s xs ys none (shown_as false e))) (λ z. omega (arith, z))
 
     -- they are not
-    pub sheet_decided : (sheet next : List ℕ) (r : SheetAnswer) → shows to (length (rows_of d)) ≡ true → r ≡ decision_answer d (length sheet) → next ≡ decision_sheet d sheet
+    pub sheet_decided : (sheet next : List ℕ) (r : Result ℕ Refusal) → shows to (length (rows_of d)) ≡ true → r ≡ decision_answer d (length sheet) → next ≡ decision_sheet d sheet
         → (r ≡ sheet_answer to s xs ys (length sheet)) × (next ≡ sheet_after to s xs ys sheet)
     unfolding decision_answer
     sheet_decided sheet next r e p q =
-        let text = call_accepted (before_room to s xs ys) 7 (text_of (decision_of s xs ys)) (numbered to s xs ys) refl (first_told to s xs ys ∙ none_refused to s xs ys (sym told ∙ h) (shown_as true e)) r sheet next
+        let text = call_accepted (before_room to s xs ys) 7 (text_of (decision_of s xs ys)) (numbered to s xs ys) refl (first_told to s xs ys ∙ none_refused to s xs ys none (shown_as true e)) r sheet next
         (p ∙ ap (λ (z : Decision). decision_answer z (length sheet)) decided) (q ∙ ap (λ (z : Decision). decision_sheet z sheet) decided) in
         (text.0 ∙ sym (answer_as to s xs ys (length sheet)), text.1 ∙ sym (after_as to s xs ys sheet))

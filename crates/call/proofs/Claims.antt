@@ -4,20 +4,22 @@ use mathlib.Core.Bool.{Bool, true, false, cond, true≢false}
 use mathlib.Core.List.{List}
 use Prim.Native.Nat.{ℕ, ◌≤◌}
 use native.Mathlib.Omega.{arith}
-use borrow.Author.Tests.{eq-eqb, eqb-true, le-leb, lt-leb, le-ltb, ltb-false}
+use borrow.Author.Tests.{eq-eqb, eqb-true, ne_eqb, le-leb, lt-leb, le-ltb, ltb-false}
 use lib.Dec.{eqb, ltb}
 use lib.Ieee.{Float}
 use lib.ListN.{length, take, drop}
 use lib.Seq.{take_at}
+use Rattle.std.specs.Prelude.{Result, Ok, Err}
 use Rattle.lists.specs.Put.{fronted}
 use Rattle.lists.proofs.Fronted.{into_fits}
 use Rattle.game.specs.declared.Situation.{Situation}
+use Rattle.refusal.specs.Refusal.{refused, number_in}
+use Rattle.refusals.proofs.Numbers.{number_back}
+use Rattle.refusal.specs.declared.Refusal.{Refusal}
 use Rattle.refusals.specs.Refusals.{requirements_of, refusal_of}
 use Rattle.decision.specs.Decision.{decision_of}
 use Rattle.sheet.specs.Rows.{rows_of}
 use Rattle.sheet.specs.Sheet.{bytes_in, text_of, decision_sheet}
-use Rattle.sheet.specs.declared.text.SheetAnswer.{SheetAnswer}
-use Rattle.sheet.specs.declared.text.SheetAnswer.TheVariants.{Refused, Written}
 use Rattle.sheet.proofs.Answers.{text_long}
 use Rattle.call.specs.declared.SheetFor.{SheetFor}
 use Rattle.call.specs.declared.SheetFor.TheVariants.{Desk, Display}
@@ -26,11 +28,11 @@ use Rattle.call.specs.Claims.{DeskClaim, DisplayClaim}
 use Rattle.call.proofs.Answers.{refusal_for, answer_cases, after_told, first_of_five, twelve, none_refused, refused_before}
 
 -- ---- a sheet that is written
-abbrev is_written : SheetAnswer → Bool
-is_written (Refused n) = false
-is_written (Written n) = true
+abbrev is_written : Result ℕ Refusal → Bool
+is_written (Err r) = false
+is_written (Ok n) = true
 
-module _ (to : SheetFor) (s : Situation) (xs ys : List Float) (sheet : List ℕ) (n : ℕ) (e : sheet_answer to s xs ys (length sheet) ≡ Written n) where
+module _ (to : SheetFor) (s : Situation) (xs ys : List Float) (sheet : List ℕ) (n : ℕ) (e : sheet_answer to s xs ys (length sheet) ≡ Ok n) where
   abbrev text : List ℕ
   text = text_of (decision_of s xs ys)
 
@@ -43,7 +45,7 @@ module _ (to : SheetFor) (s : Situation) (xs ys : List Float) (sheet : List ℕ)
   pub written_told : Told
   written_told = go (eqb (refusal_for to s xs ys) 0) (ltb (length sheet) (length text)) refl refl (sym (answer_cases to s xs ys (length sheet)) ∙ e)
     where
-      go : (a b : Bool) → eqb (refusal_for to s xs ys) 0 ≡ a → ltb (length sheet) (length text) ≡ b → cond a (cond b (Refused 7) (Written (length text))) (Refused (refusal_for to s xs ys)) ≡ Written n → Told
+      go : (a b : Bool) → eqb (refusal_for to s xs ys) 0 ≡ a → ltb (length sheet) (length text) ≡ b → cond a (cond b (refused 7) (Ok (length text))) (refused (refusal_for to s xs ys)) ≡ Ok n → Told
       go true true p q w = absurd (true≢false (sym (ap is_written w)))
       go true false p q w = record { none = eqb-true (refusal_for to s xs ys) 0 p; room = q; size = ap bytes_in w }
       go false b p q w = absurd (true≢false (sym (ap is_written w)))
@@ -77,7 +79,7 @@ module _ (s : Situation) (xs ys : List Float) (sheet : List ℕ) where
   lines = length (rows_of (decision_of s xs ys))
 
   -- a refusal before 7, told from the call's side
-  kept : (n : ℕ) → refusal_for Display s xs ys ≡ n → (n ≡ 0 → ⊥) → (sheet_answer Display s xs ys (length sheet) ≡ Refused n) × (sheet_after Display s xs ys sheet ≡ sheet)
+  kept : (n : ℕ) → refusal_for Display s xs ys ≡ n → (n ≡ 0 → ⊥) → (sheet_answer Display s xs ys (length sheet) ≡ refused n) × (sheet_after Display s xs ys sheet ≡ sheet)
   kept n e h = let told = refused_before Display s xs ys n sheet (sym e) h in (sym told.0, sym told.1)
 
   -- up to twelve lines: both lists of refusals give the same
@@ -88,7 +90,7 @@ module _ (s : Situation) (xs ys : List Float) (sheet : List ℕ) where
   alike h =
       let text = text_of (decision_of s xs ys) in (
         answer_cases Display s xs ys (length sheet)
-            ∙ ap (λ (n : ℕ). cond (eqb n 0) (cond (ltb (length sheet) (length text)) (Refused 7) (Written (length text))) (Refused n)) (same_first h)
+            ∙ ap (λ (n : ℕ). cond (eqb n 0) (cond (ltb (length sheet) (length text)) (refused 7) (Ok (length text))) (refused n)) (same_first h)
             ∙ sym (answer_cases Desk s xs ys (length sheet)),
         after_told Display s xs ys sheet
             ∙ ap (λ (n : ℕ). cond (eqb n 0) (decision_sheet (decision_of s xs ys) sheet) sheet) (same_first h)
@@ -96,18 +98,22 @@ module _ (s : Situation) (xs ys : List Float) (sheet : List ℕ) where
       )
 
   -- the header and twelve lines have room
-  fits : refusal_of s xs ys ≡ 0 → lines ≤ 12 → 585 ≤ length sheet → sheet_answer Display s xs ys (length sheet) ≡ Written (length (text_of (decision_of s xs ys)))
+  fits : refusal_of s xs ys ≡ 0 → lines ≤ 12 → 585 ≤ length sheet → sheet_answer Display s xs ys (length sheet) ≡ Ok (length (text_of (decision_of s xs ys)))
   fits h few room =
       let text = text_of (decision_of s xs ys) in
       let long : length text ≤ length sheet = omega (arith, text_long (decision_of s xs ys), few, room) in
       answer_cases Display s xs ys (length sheet)
-      ∙ ap (λ (n : ℕ). cond (eqb n 0) (cond (ltb (length sheet) (length text)) (Refused 7) (Written (length text))) (Refused n)) (none_refused Display s xs ys h (le-leb lines 12 few))
-      ∙ ap (λ (b : Bool). cond b (Refused 7) (Written (length text))) (le-ltb (length sheet) (length text) long)
+      ∙ ap (λ (n : ℕ). cond (eqb n 0) (cond (ltb (length sheet) (length text)) (refused 7) (Ok (length text))) (refused n)) (none_refused Display s xs ys h (le-leb lines 12 few))
+      ∙ ap (λ (b : Bool). cond b (refused 7) (Ok (length text))) (le-ltb (length sheet) (length text) long)
 
 pub display : DisplayClaim
 display s xs ys sheet =
     record {
-      refused = λ h. kept s xs ys sheet (refusal_of s xs ys) (first_of_five Display s xs ys h) h;
+      refused = λ h. let k = kept s xs ys sheet (refusal_of s xs ys) (first_of_five Display s xs ys h) h in (
+        k.0,
+        ap (number_in {A = ℕ}) k.0 ∙ ap (number_in {A = ℕ}) (sym (ap (λ (b : Bool). cond b (Ok 0) (refused (refusal_of s xs ys))) (ne_eqb (refusal_of s xs ys) 0 h))) ∙ number_back {A = ℕ} 0 s xs ys,
+        k.1,
+      );
       too_many = λ h many. kept s xs ys sheet 12 (twelve Display s xs ys h (lt-leb (lines s xs ys sheet) 12 many)) (λ z. omega (arith, z));
       as_for_desk = alike s xs ys sheet;
       enough = fits s xs ys sheet;

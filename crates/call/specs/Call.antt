@@ -1,14 +1,14 @@
 -- What a call for a sheet answers, and what the lent bytes are after it: the first refusal of one list, else the sheet. Definitions only.
-use Rattle.std.specs.Prelude.{Bool, true, cond, List, [], ◌∷◌, ◌++◌, ℕ, eqb, leb, Float, length}
+use Rattle.std.specs.Prelude.{Bool, true, cond, Result, List, [], ◌∷◌, ◌++◌, ℕ, eqb, leb, Float, length}
 use Rattle.lists.specs.Put.{fronted}
 use Rattle.lists.specs.Refusals.{Requirement, first_refusal}
 use Rattle.game.specs.declared.Decision.{Decision}
 use Rattle.game.specs.declared.Situation.{Situation}
+use Rattle.refusal.specs.declared.Refusal.{Refusal}
 use Rattle.refusals.specs.Refusals.{requirements_of}
 use Rattle.decision.specs.Decision.{decision_of}
 use Rattle.sheet.specs.Rows.{rows_of}
 use Rattle.sheet.specs.Sheet.{answered, text_of, room_for}
-use Rattle.sheet.specs.declared.text.SheetAnswer.{SheetAnswer}
 use Rattle.call.specs.declared.SheetFor.{SheetFor}
 use Rattle.call.specs.declared.SheetFor.TheVariants.{Desk, Display}
 
@@ -26,7 +26,7 @@ abbrev pub call_requirements : SheetFor → Situation → List Float → List Fl
 call_requirements to s xs ys lent = requirements_of s xs ys ++ (lines_for to (decision_of s xs ys) ∷ room_for (decision_of s xs ys) lent ∷ [])
 
 -- the first refusal, else the number of bytes written
-unfoldable pub sheet_answer : SheetFor → Situation → List Float → List Float → ℕ → SheetAnswer
+unfoldable pub sheet_answer : SheetFor → Situation → List Float → List Float → ℕ → Result ℕ Refusal
 sheet_answer to s xs ys lent = answered (first_refusal (call_requirements to s xs ys lent)) (length (text_of (decision_of s xs ys)))
 
 -- a refusal keeps every byte; else the text and after it the bytes that were there

@@ -7,7 +7,7 @@ ghost use Rattle.coach.specs.Coach.{sentence_answer, sentence_after, sentences_a
 ghost use Rattle.call.specs.Call as Spec;
 
 use game::{Decision, Side, Situation};
-use sheet::SheetAnswer;
+use refusal::Refusal;
 
 // Whom a sheet is for: the desk, or the display in the corridor, which shows at most twelve lines under the header. The lines are the same.
 #[derive(Clone, Copy)]
@@ -29,7 +29,7 @@ fn all_shown(to: SheetFor, d: Decision) -> bool
     }
 }
 
-// Decides on a situation and writes its sheet at the front of the lent bytes; the bytes after it are kept. A refusal, 1 to 5, then 12 and then 7, keeps them all.
+// Decides on a situation and writes its sheet at the front of the lent bytes, and answers how many bytes it has; the bytes after it are kept. A refusal, 1 to 5, then 12 and then 7, keeps them all.
 // The earlier places of the batch are the two lists.
 pub fn write_sheet<'a>(
     to: SheetFor,
@@ -37,18 +37,14 @@ pub fn write_sheet<'a>(
     xs: &'a [f32],
     ys: &'a [f32],
     sheet: &mut [u8],
-) -> SheetAnswer
+) -> Result<usize, Refusal>
     ensures value { result ≡ Spec.sheet_answer to s xs.now ys.now (length sheet.old) }
     ensures sheet_after { sheet.new ≡ Spec.sheet_after to s xs.now ys.now sheet.old }
 {
-    let refusal = refusals::refusal(s, xs, ys);
-    let refused = refusal != 0;
-    if refused {
-        return SheetAnswer::Refused(refusal);
-    }
+    refusals::refusal(s, xs, ys)?;
     let d = decision::decision_of(s, xs, ys);
     if !all_shown(to, d) {
-        return SheetAnswer::Refused(12);
+        return Err(Refusal::Display);
     }
     sheet::write_decision(d, sheet)
 }
@@ -62,12 +58,13 @@ pub fn write_sentence<'a>(
     side: Side,
     number: u32,
     text: &mut [u8],
-) -> SheetAnswer
+) -> Result<usize, Refusal>
     ensures value { result ≡ sentence_answer s xs.now ys.now side number (length text.old) }
     ensures text_after { text.new ≡ sentence_after s xs.now ys.now side number text.old }
 {
-    let refusal = refusals::refusal(s, xs, ys);
-    coach::write_sentence(refusal, s, side, number, text)
+    let own = refusals::refusal(s, xs, ys);
+    coach::with_number(own, number)?;
+    coach::write_sentence(s, side, number, text)
 }
 
 // Writes the coach's lines on all players of a situation that do not stand legally at the front of the lent bytes, in the order of the sheet, each with a line feed; the bytes
@@ -77,10 +74,11 @@ pub fn write_sentences<'a>(
     xs: &'a [f32],
     ys: &'a [f32],
     text: &mut [u8],
-) -> SheetAnswer
+) -> Result<usize, Refusal>
     ensures value { result ≡ sentences_answer s xs.now ys.now (length text.old) }
     ensures text_after { text.new ≡ sentences_after s xs.now ys.now text.old }
 {
-    let refusal = refusals::refusal(s, xs, ys);
-    coach::write_sentences(refusal, s, text)
+    let refused = refusals::refusal(s, xs, ys);
+    refused?;
+    coach::write_sentences(s, text)
 }

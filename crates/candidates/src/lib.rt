@@ -47,14 +47,12 @@ fn fill_turns(list: &mut [f32], first: f32, min: f32, max: f32, step: f32, turns
     ensures list_after { list.new ≡ fronted (flat_to turns (places_at first min max step)) list.old }
 {
     let mut n: usize = 0;
-    let mut k: u16 = 0;
-    while k < turns {
+    for k in 0..turns {
         let out = from_count(k + 1) * step;
         let lower = first - out;
         let upper = first + out;
         let with_lower = put_if(list, n, lower >= min, lower);
         n = put_if(list, with_lower, upper <= max, upper);
-        k += 1;
     }
     n
 }

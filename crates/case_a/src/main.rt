@@ -3,10 +3,9 @@
 
 use call::SheetFor;
 use game::{
-    Ball, FieldDimensions, Game, MaybeNumber, MaybeRestart, MaybeSide, Penalty, Phase, Player,
-    PlayerPose, ReferencePose, SeenPose, SetPlay, SideMapping, Situation, State, Team, Wish,
+    Ball, FieldDimensions, Game, Penalty, Phase, Player, PlayerPose, SetPlay, SideMapping,
+    Situation, State, Team, Wish,
 };
-use sheet::SheetAnswer;
 use std::io;
 
 // Room for the sheet.
@@ -37,7 +36,7 @@ fn game() -> Game {
     let phase = Phase::FirstHalf;
     let state = State::Playing;
     let set_play = SetPlay::NoSetPlay;
-    let kicking_side = MaybeSide::NoSide;
+    let kicking_side = None;
     Game {
         sides,
         stopped: false,
@@ -49,8 +48,8 @@ fn game() -> Game {
 }
 
 // An unpenalised player without a reference pose, allowance 0.
-fn player(pose: SeenPose, previously_inside: bool) -> Player {
-    let reference = ReferencePose::NoReference;
+fn player(pose: Option<PlayerPose>, previously_inside: bool) -> Player {
+    let reference = None;
     let penalty = Penalty::NoPenalty;
     Player {
         pose,
@@ -69,12 +68,12 @@ fn present(x: f32, y: f32, previously_inside: bool) -> Player {
         theta: 0.0,
         radius: 0.25,
     };
-    let pose = SeenPose::Present(p);
+    let pose = Some(p);
     player(pose, previously_inside)
 }
 
 fn absent() -> Player {
-    let pose = SeenPose::Absent;
+    let pose = None;
     player(pose, false)
 }
 
@@ -85,7 +84,7 @@ fn home() -> Team {
     players[2] = present(6.5, 1.0, true);
     players[3] = present(6.25, -1.0, true);
     players[4] = present(6.75, 0.5, false);
-    let goalkeeper = MaybeNumber::NoNumber;
+    let goalkeeper = None;
     Team {
         players,
         goalkeeper,
@@ -98,7 +97,7 @@ fn case_a() -> Situation {
     let home = home();
     let nobody = absent();
     let players = [nobody; 20];
-    let goalkeeper = MaybeNumber::NoNumber;
+    let goalkeeper = None;
     let away = Team {
         players,
         goalkeeper,
@@ -108,8 +107,8 @@ fn case_a() -> Situation {
         y: 1.0,
         z: 0.125,
     };
-    let last_contact = MaybeSide::NoSide;
-    let restart = MaybeRestart::NoRestart;
+    let last_contact = None;
+    let restart = None;
     let wish = Wish::Nothing;
     Situation {
         field,
@@ -133,7 +132,7 @@ fn main(rt: HostRuntime) -> io::Result<()> {
     let mut text = [0u8; ROOM];
     let answer = call::write_sheet(SheetFor::Desk, s, &xs[..0], &ys[..0], &mut text);
     match answer {
-        SheetAnswer::Refused(_) => println!(rt; "refused"),
-        SheetAnswer::Written(n) => rt.write_all(replies::front(&text, n)),
+        Err(_) => println!(rt; "refused"),
+        Ok(n) => rt.write_all(replies::front(&text, n)),
     }
 }

@@ -6,7 +6,7 @@ mod sheets;
 
 ghost use Rattle.std.specs.Prelude.{◌≤◌, length};
 
-use records::{Found, Record};
+use records::Record;
 use sheets::Asked;
 use std::io;
 use std::num::wrapping_add_u64;
@@ -61,10 +61,9 @@ fn counted(rt: &impl Print, t: Tally, same: bool, at: usize) -> io::Result<Tally
 
 // One record on. Where one is broken, it is not known where the next begins.
 fn step(rt: &impl Print, list: &[u8], t: Tally) -> io::Result<Tally> {
-    let found = records::record_at(list, t.at);
-    match found {
-        Found::Whole(r) => counted(rt, t, agrees(list, r), r.next),
-        Found::Broken => {
+    match records::record_at(list, t.at) {
+        Some(r) => counted(rt, t, agrees(list, r), r.next),
+        None => {
             print!(rt; "broken: ")?;
             counted(rt, t, false, list.len())
         }
@@ -78,13 +77,11 @@ fn compared(rt: &impl Print, list: &[u8]) -> io::Result<Tally> {
         records: 0,
         at: 0,
     };
-    let mut left = MOST;
-    while left > 0 {
+    for _ in 0..MOST {
         if t.at == list.len() {
             return Ok(t);
         }
         t = step(rt, list, t)?;
-        left -= 1;
     }
     Ok(t)
 }

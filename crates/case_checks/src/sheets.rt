@@ -1,10 +1,7 @@
 // What records have: a text that the program `judge` reads, or words for the library's calls.
-ghost use Rattle.std.specs.Prelude.{◌≤◌};
-
 use call::SheetFor;
 use desk::Reply;
-use numbers::Reading;
-use sheet::SheetAnswer;
+use refusal::Refusal;
 
 // What each lent byte holds before a call; no text here has it.
 const FILL: u8 = 170;
@@ -16,6 +13,9 @@ const MOST: usize = 7680;
 const SHEET_NUMBERS: usize = 566;
 
 const NUMBERS: usize = 568;
+
+// The most earlier x, and earlier y.
+const PLACES: usize = 4097;
 
 // The library's calls: for a sheet, for the desk or the display, and for a coach's line.
 #[derive(Clone, Copy)]
@@ -53,19 +53,11 @@ pub(crate) fn judged(kind: u32, input: &[u8], lent: usize, answer: &[u8]) -> boo
     }
 }
 
-// How many places there are, which is at most 4,097.
-fn count_of(number: u32) -> usize
-    ensures { result ≤ 4097 }
-{
-    let n = number as usize;
-    if n < 4097 { n } else { 4097 }
-}
-
 // Whether the answer is this refusal, or, where it is 0, a text of so many bytes.
-fn is_answer(answer: SheetAnswer, refusal: u32, size: usize) -> bool {
+fn is_answer(answer: Result<usize, Refusal>, refusal: u32, size: usize) -> bool {
     match answer {
-        SheetAnswer::Refused(n) => (n as u32 == refusal) & (n != 0),
-        SheetAnswer::Written(n) => (n == size) & (refusal == 0),
+        Err(refused) => refusal::number_of(refused) as u32 == refusal,
+        Ok(n) => (n == size) & (refusal == 0),
     }
 }
 
@@ -76,7 +68,7 @@ fn written<'a>(
     xs: &'a [f32],
     ys: &'a [f32],
     out: &mut [u8],
-) -> SheetAnswer {
+) -> Result<usize, Refusal> {
     let s = words::situation_of(numbers);
     match asked {
         Asked::Desk => call::write_sheet(SheetFor::Desk, s, xs, ys, out),
@@ -97,28 +89,34 @@ fn size_of(asked: Asked) -> usize {
     }
 }
 
-// The same on the front of the bytes.
-fn call(asked: Asked, numbers: &[u32; NUMBERS], bytes: &mut [u8], lent: usize) -> SheetAnswer {
+// The same on the front of the bytes, where there are so many.
+fn call(
+    asked: Asked,
+    numbers: &[u32; NUMBERS],
+    bytes: &mut [u8],
+    lent: usize,
+) -> Option<Result<usize, Refusal>> {
     let place = floats::from_bits(numbers[565]);
-    let xs = [place; 4097];
-    let ys = [place; 4097];
-    let nx = count_of(numbers[563]);
-    let ny = count_of(numbers[564]);
+    let xs = [place; PLACES];
+    let ys = [place; PLACES];
+    let nx = (numbers[563] as usize).min(PLACES);
+    let ny = (numbers[564] as usize).min(PLACES);
     if lent <= bytes.len() {
-        return written(asked, numbers, &xs[..nx], &ys[..ny], &mut bytes[..lent]);
+        return Some(written(asked, numbers, &xs[..nx], &ys[..ny], &mut bytes[..lent]));
     }
-    SheetAnswer::Refused(0)
+    None
 }
 
 // Whether the call for the numbers of the input gives this refusal, or, where it is 0, this text, and all other bytes are kept.
 pub(crate) fn called(asked: Asked, input: &[u8], lent: usize, refusal: u32, text: &[u8]) -> bool {
     let mut numbers = [0u32; NUMBERS];
-    let reading = numbers::read_numbers(input, &mut numbers);
-    let Reading::Read(n) = reading else {
+    let Ok(n) = numbers::read_numbers(input, &mut numbers) else {
         return false;
     };
     let mut bytes = [FILL; MOST];
-    let answer = call(asked, &numbers, &mut bytes, lent);
+    let Some(answer) = call(asked, &numbers, &mut bytes, lent) else {
+        return false;
+    };
     let right = is_answer(answer, refusal, text.len());
     let kept = records::holds(&bytes, text, FILL);
     right & kept & (n == size_of(asked))

@@ -9,7 +9,6 @@ use lib.Ieee.{Float, binary32, neg, fits}
 use Rattle.floats.specs.Arithmetic.{zero32}
 use Rattle.game.specs.Players.{nobody}
 use Rattle.game.specs.declared.Ball.{Ball}
-use Rattle.game.specs.declared.MaybeSide.TheVariants.{NoSide}
 use Rattle.game.specs.declared.Penalty.TheVariants.{NoPenalty}
 use Rattle.game.specs.declared.Player.{Player}
 use Rattle.refusals.specs.Refusals.{refusal_of}
@@ -20,6 +19,7 @@ use Rattle.cases.specs.Field.{◌over◌, player_with, seen_at, absent}
 use Rattle.cases.specs.CaseA.{with_ball, case_a, untouched}
 use Rattle.cases.specs.HalfTurn.{HalfTurnCases}
 use Rattle.cases.proofs.Opened.{floats, answers}
+use Rattle.std.specs.Prelude.{None}
 
 -- players whose poses fit
 data Fitting : List Player → Type 0 where
@@ -41,7 +41,7 @@ unfolding floats
 seen_fits x y h = record { y = h; radius = tt }
 
 -- the floats of A fit, if the ball's do
-fit : (ball : Ball) → BallFit ball → Fit (with_ball ball NoSide)
+fit : (ball : Ball) → BallFit ball → Fit (with_ball ball None)
 unfolding answers
 fit ball h =
     record {

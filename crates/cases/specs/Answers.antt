@@ -1,23 +1,18 @@
 -- What the answers of the cases are made of. Definitions only.
-use Rattle.std.specs.Prelude.{List, [], ◌∷◌, ◌++◌, ℕ, ◌+◌, replicate, Float}
+use Rattle.std.specs.Prelude.{List, [], ◌∷◌, ◌++◌, ℕ, ◌+◌, replicate, Float, Option, None, Some}
 use Rattle.game.specs.declared.BallJudgment.{BallJudgment}
 use Rattle.game.specs.declared.BallJudgment.TheVariants.{NoJudgment}
-use Rattle.game.specs.declared.KickingPlayer.TheVariants.{NoKicker}
-use Rattle.game.specs.declared.MaybeMargins.{MaybeMargins}
-use Rattle.game.specs.declared.MaybeMargins.TheVariants.{NoMargins, Known}
 use Rattle.game.specs.declared.Placement.TheVariants.{NoPlace}
 use Rattle.game.specs.declared.PlayerList.{PlayerList}
-use Rattle.game.specs.declared.PlayerMargins.{PlayerMargins}
-use Rattle.game.specs.declared.PlayerVerdict.{PlayerVerdict}
 use Rattle.game.specs.declared.Positioning.{Positioning}
 use Rattle.game.specs.declared.Positioning.TheVariants.{Legal}
-use Rattle.game.specs.declared.ReferencePose.TheVariants.{NoReference}
 use Rattle.game.specs.declared.SideDecision.{SideDecision}
 use Rattle.game.specs.declared.Situation.{Situation}
 use Rattle.decision.specs.Decision.{answer_of}
 use Rattle.decision.specs.declared.call.Answer.{Answer}
 use Rattle.lines.specs.declared.Row.{Row}
 use Rattle.sheet.specs.Rows.{row, sheet_rows}
+use Rattle.game.specs.declared.Margins.{Margins}
 
 -- ---- players
 -- no player
@@ -33,19 +28,19 @@ abbrev pub two : ℕ → ℕ → PlayerList
 two m n = record { count = 2; numbers = m ∷ n ∷ replicate 18 0 }
 
 -- everybody Legal but 2
-abbrev pub only2 : Positioning → List PlayerVerdict
-only2 v = record { verdict = Legal } ∷ record { verdict = v } ∷ replicate 18 (record { verdict = Legal })
+abbrev pub only2 : Positioning → List Positioning
+only2 v = Legal ∷ v ∷ replicate 18 Legal
 
 -- ---- answers
 -- a side's items, its excess and who leaves, where every verdict is Legal, nobody has moved, and no reference pose is there
 abbrev pub side_items : PlayerList → PlayerList → SideDecision
 side_items excess leaving =
     record {
-      verdicts = replicate 20 (record { verdict = Legal });
+      verdicts = replicate 20 Legal;
       excess = excess;
       leaving = leaving;
       moved = none;
-      references = replicate 20 (record { reference = NoReference });
+      references = replicate 20 None;
     }
 
 -- the same where nobody leaves
@@ -54,22 +49,22 @@ side_with excess = side_items excess none
 
 -- not refused: Home's excess and the ball judgment, no excess of Away, no kicker and no place
 abbrev pub answered : PlayerList → BallJudgment → Answer
-answered excess ball = record { refusal = 0; decision = record { home = side_with excess; away = side_with none; kicker = NoKicker; ball = ball; place = NoPlace } }
+answered excess ball = record { refusal = 0; decision = record { home = side_with excess; away = side_with none; kicker = None; ball = ball; place = NoPlace } }
 
 -- not refused: who of Home leaves, and nothing else
 abbrev pub leavers : PlayerList → Answer
-leavers who = record { refusal = 0; decision = record { home = side_items none who; away = side_with none; kicker = NoKicker; ball = NoJudgment; place = NoPlace } }
+leavers who = record { refusal = 0; decision = record { home = side_items none who; away = side_with none; kicker = None; ball = NoJudgment; place = NoPlace } }
 
 -- ---- margins
 -- a player's margin to the own goal area, if present, before those of the others
-abbrev pub own_goal_area : MaybeMargins → List Float → List Float
-own_goal_area NoMargins rest = rest
-own_goal_area (Known m) rest = m.own_goal_area ∷ rest
+abbrev pub own_goal_area : Option Margins → List Float → List Float
+own_goal_area None rest = rest
+own_goal_area (Some m) rest = m.own_goal_area ∷ rest
 
 -- the margins to the own goal area of those that are present, in the order of their numbers
-abbrev pub own_goal_areas : List PlayerMargins → List Float
+abbrev pub own_goal_areas : List (Option Margins) → List Float
 own_goal_areas [] = []
-own_goal_areas (m ∷ ms) = own_goal_area m.margins (own_goal_areas ms)
+own_goal_areas (m ∷ ms) = own_goal_area m (own_goal_areas ms)
 
 -- ---- the sheet
 -- the lines of the answer to a situation with no earlier places

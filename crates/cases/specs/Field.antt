@@ -1,5 +1,5 @@
 -- The field of case A in document 01, and situations on it. A float is written as a fraction of whole numbers. Definitions only.
-use Rattle.std.specs.Prelude.{Bool, false, List, [], ℕ, replicate, Float}
+use Rattle.std.specs.Prelude.{Bool, false, List, [], ℕ, replicate, Float, Option, None, Some}
 use Rattle.std.specs.Float.{binary32}
 use Rattle.std.specs.Float.Ieee.{div}
 use Rattle.lists.specs.Put.{fronted}
@@ -8,22 +8,18 @@ use Rattle.floats.specs.Leaves.{of_count}
 use Rattle.game.specs.declared.Ball.{Ball}
 use Rattle.game.specs.declared.FieldDimensions.{FieldDimensions}
 use Rattle.game.specs.declared.Game.{Game}
-use Rattle.game.specs.declared.MaybeNumber.TheVariants.{NoNumber}
-use Rattle.game.specs.declared.MaybeRestart.TheVariants.{NoRestart}
-use Rattle.game.specs.declared.MaybeSide.{MaybeSide}
 use Rattle.game.specs.declared.Penalty.{Penalty}
 use Rattle.game.specs.declared.Penalty.TheVariants.{NoPenalty}
 use Rattle.game.specs.declared.Phase.TheVariants.{FirstHalf}
 use Rattle.game.specs.declared.Player.{Player}
-use Rattle.game.specs.declared.ReferencePose.TheVariants.{NoReference}
-use Rattle.game.specs.declared.SeenPose.{SeenPose}
-use Rattle.game.specs.declared.SeenPose.TheVariants.{Absent, Present}
 use Rattle.game.specs.declared.SetPlay.{SetPlay}
 use Rattle.game.specs.declared.SideMapping.TheVariants.{HomeDefendsLeftGoal}
 use Rattle.game.specs.declared.Situation.{Situation}
 use Rattle.game.specs.declared.State.{State}
 use Rattle.game.specs.declared.Team.{Team}
 use Rattle.game.specs.declared.Wish.{Wish}
+use Rattle.game.specs.declared.Side.{Side}
+use Rattle.game.specs.declared.PlayerPose.{PlayerPose}
 
 infix 8 ◌over◌
 -- the binary32 of a fraction
@@ -55,19 +51,19 @@ abbrev pub field_a : FieldDimensions
 field_a = field_with (1 over 8)
 
 -- FirstHalf, not stopped, HomeDefendsLeftGoal
-abbrev pub game_in : State → SetPlay → MaybeSide → Game
+abbrev pub game_in : State → SetPlay → Option Side → Game
 game_in state play kicking = record { sides = HomeDefendsLeftGoal; stopped = false; phase = FirstHalf; state = state; set_play = play; kicking_side = kicking }
 
 -- allowance 0, no reference pose; the Bool tells whether the player was inside
-abbrev pub player_with : SeenPose → Penalty → Bool → Player
-player_with pose penalty was = record { pose = pose; reference = NoReference; penalty = penalty; allowance = zero32; previously_inside = was }
+abbrev pub player_with : Option PlayerPose → Penalty → Bool → Player
+player_with pose penalty was = record { pose = pose; reference = None; penalty = penalty; allowance = zero32; previously_inside = was }
 
 -- a pose of this radius at (x, y), heading 0
-abbrev pub seen_of : Float → Float → Float → SeenPose
-seen_of radius x y = Present (record { x = x; y = y; theta = zero32; radius = radius })
+abbrev pub seen_of : Float → Float → Float → Option PlayerPose
+seen_of radius x y = Some (record { x = x; y = y; theta = zero32; radius = radius })
 
 -- of radius 0.25
-abbrev pub seen_at : Float → Float → SeenPose
+abbrev pub seen_at : Float → Float → Option PlayerPose
 seen_at = seen_of (1 over 4)
 
 -- an unpenalised player there, who was not inside
@@ -76,14 +72,14 @@ at x y = player_with (seen_at x y) NoPenalty false
 
 -- one who is not there
 abbrev pub absent : Player
-absent = player_with Absent NoPenalty false
+absent = player_with None NoPenalty false
 
 -- the first players of a team without a goalkeeper; the others are absent
 abbrev pub team : List Player → Team
-team l = record { players = fronted l (replicate 20 absent); goalkeeper = NoNumber }
+team l = record { players = fronted l (replicate 20 absent); goalkeeper = None }
 
 -- Away absent, this distance, no restart, without which the two flags after it make no difference: document 01 leaves them open, and they are false
-abbrev pub situation_apart : Float → FieldDimensions → Game → Team → Ball → MaybeSide → Wish → Situation
+abbrev pub situation_apart : Float → FieldDimensions → Game → Team → Ball → Option Side → Wish → Situation
 situation_apart distance f g home ball contact wish =
     record {
       field = f;
@@ -93,16 +89,16 @@ situation_apart distance f g home ball contact wish =
       away = team [];
       ball = ball;
       last_contact = contact;
-      restart = NoRestart;
+      restart = None;
       invalid_goals_judged = false;
       ball_rested = false;
       wish = wish;
     }
 
 -- distance 1
-abbrev pub situation_on : FieldDimensions → Game → Team → Ball → MaybeSide → Wish → Situation
+abbrev pub situation_on : FieldDimensions → Game → Team → Ball → Option Side → Wish → Situation
 situation_on = situation_apart (1 over 1)
 
 -- on the field of A
-abbrev pub situation : Game → Team → Ball → MaybeSide → Wish → Situation
+abbrev pub situation : Game → Team → Ball → Option Side → Wish → Situation
 situation = situation_on field_a

@@ -1,8 +1,7 @@
 -- Places of a penalty kick and a penalty shot on the field of case A. Definitions only.
-use Rattle.std.specs.Prelude.{◌≡◌, [], ◌∷◌}
+use Rattle.std.specs.Prelude.{◌≡◌, [], ◌∷◌, None, Some}
 use Rattle.std.specs.Float.Ieee.{neg}
 use Rattle.floats.specs.Arithmetic.{zero32, pi}
-use Rattle.game.specs.declared.MaybeSide.TheVariants.{NoSide, Of}
 use Rattle.game.specs.declared.Placement.{Placement}
 use Rattle.game.specs.declared.Placement.TheVariants.{BallAt, PlayerAt}
 use Rattle.game.specs.declared.SetPlay.{SetPlay}
@@ -17,7 +16,7 @@ use Rattle.cases.specs.CaseA.{ball_at}
 
 -- in Set, Home kicks, and 2 stands at the center
 abbrev pub placed : SetPlay → Wish → Placement
-placed play wish = (answer_of (situation (game_in Set play (Of Home)) (team (absent ∷ at zero32 zero32 ∷ [])) (ball_at zero32 zero32) NoSide wish) [] []).decision.place
+placed play wish = (answer_of (situation (game_in Set play (Some Home)) (team (absent ∷ at zero32 zero32 ∷ [])) (ball_at zero32 zero32) None wish) [] []).decision.place
 
 -- where the ball and the striker are placed
 pub record PlaceCases : Type 0 where

@@ -1,22 +1,21 @@
 -- The table of document 01's cases marked with *, in the document's order, on the field of its case A, and after them the cases of document 02's requests. Above the claims of a case
 -- stands its line of the document, or what is asked. Each claim is of the answer to a situation, or of the leaf or entry that the line names. Definitions only.
-use Rattle.std.specs.Prelude.{◌≡◌, [], ◌∷◌, ◌++◌, ◌+◌, ◌^◌, replicate, Float}
+use Rattle.std.specs.Prelude.{◌≡◌, [], ◌∷◌, ◌++◌, ◌+◌, ◌^◌, replicate, Float, None, Some, Ok, Err}
 use Rattle.std.specs.Float.{binary32}
 use Rattle.std.specs.Float.Ieee.{neg, of_bits, to_bits}
 use Rattle.floats.specs.Arithmetic.{◌+₃₂◌, ◌*₃₂◌, zero32, half, pi}
 use Rattle.hypot.specs.Hypot.{hypot}
 use Rattle.game.specs.declared.BallJudgment.TheVariants.{NoJudgment, Goal, GoalKick, CornerKick, ThrowIn}
-use Rattle.game.specs.declared.MaybeSide.TheVariants.{NoSide, Of}
 use Rattle.game.specs.declared.Placement.TheVariants.{BallAt, PlayerAt}
 use Rattle.game.specs.declared.Positioning.TheVariants.{Illegal, IllegalUnlessKicker}
 use Rattle.game.specs.declared.Side.TheVariants.{Home, Away}
 use Rattle.game.specs.declared.State.TheVariants.{Set, Playing}
 use Rattle.candidates.specs.Candidates.{answer_of as candidates_answer}
+use Rattle.refusal.specs.declared.Refusal.TheVariants.{Distance, SheetRoom, Display as MoreLines}
 use Rattle.refusals.specs.Refusals.{refusal_of}
 use Rattle.decision.specs.Decision.{side_margins, decision_of, answer_of}
 use Rattle.decision.specs.HalfTurn.{turned}
 use Rattle.sheet.specs.Sheet.{text_of}
-use Rattle.sheet.specs.declared.text.SheetAnswer.TheVariants.{Refused, Written}
 use Rattle.call.specs.declared.SheetFor.TheVariants.{Desk, Display}
 use Rattle.call.specs.Call.{sheet_answer, sheet_after}
 use Rattle.cases.specs.Field.{◌over◌}
@@ -30,7 +29,7 @@ pub record Table : Type 0 where
   -- its sheet
   pub a_sheet : text_of (decision_of case_a [] []) ≡ sheet_a
   -- 135 bytes lent do; refusal 7: 135 needed, 134 lent
-  pub a_written : (sheet_answer Desk case_a [] [] 135 ≡ Written 135) × (sheet_answer Desk case_a [] [] 134 ≡ Refused 7)
+  pub a_written : (sheet_answer Desk case_a [] [] 135 ≡ Ok 135) × (sheet_answer Desk case_a [] [] 134 ≡ Err SheetRoom)
   -- bytes after the last line are kept, and all of them where there is no room
   pub a_after : (sheet_after Desk case_a [] [] (replicate 137 7) ≡ sheet_a ++ (7 ∷ 7 ∷ [])) × (sheet_after Desk case_a [] [] (replicate 134 7) ≡ replicate 134 7)
   -- * A in Set: excess 4.
@@ -42,11 +41,11 @@ pub record Table : Type 0 where
   pub hypot_3_4 : hypot (3 over 1) (4 over 1) ≡ 5 over 1
   pub hypot_zeros : hypot zero32 (neg zero32) ≡ zero32
   -- * Ball x 7.125, y 0: no judgment. 7.125 + 2^-21: goal.
-  pub on_goal_line : answer_of (with_ball (ball_at (57 over 8) zero32) NoSide) [] [] ≡ answered (only 5) NoJudgment
-  pub past_goal_line : answer_of (with_ball (ball_at (57 over 8 +₃₂ 1 over (2 ^ 21)) zero32) NoSide) [] [] ≡ answered (only 5) (Goal Away)
+  pub on_goal_line : answer_of (with_ball (ball_at (57 over 8) zero32) None) [] [] ≡ answered (only 5) NoJudgment
+  pub past_goal_line : answer_of (with_ball (ball_at (57 over 8 +₃₂ 1 over (2 ^ 21)) zero32) None) [] [] ≡ answered (only 5) (Goal Away)
   -- * Ball (7.25, 1.125, 0.125): goal kick Home; last contact Home: corner Away.
-  pub beside_goal : answer_of (with_ball (ball_at (29 over 4) (9 over 8)) NoSide) [] [] ≡ answered (only 5) (GoalKick Home)
-  pub beside_goal_by_home : answer_of (with_ball (ball_at (29 over 4) (9 over 8)) (Of Home)) [] [] ≡ answered (only 5) (CornerKick Away)
+  pub beside_goal : answer_of (with_ball (ball_at (29 over 4) (9 over 8)) None) [] [] ≡ answered (only 5) (GoalKick Home)
+  pub beside_goal_by_home : answer_of (with_ball (ball_at (29 over 4) (9 over 8)) (Some Home)) [] [] ≡ answered (only 5) (CornerKick Away)
   -- * Ball (0, 4.75, 0.125), no contact: throw-in Away; turned: Home.
   pub between_halves : answer_of untouched [] [] ≡ answered (only 5) (ThrowIn Away)
   pub between_halves_turned : answer_of (turned untouched) [] [] ≡ answered (only 5) (ThrowIn Home)
@@ -102,14 +101,14 @@ pub record Table : Type 0 where
   -- Request 5. A's sheet for the display is the same.
   pub a_displayed : sheet_after Display case_a [] [] (replicate 137 7) ≡ sheet_a ++ (7 ∷ 7 ∷ [])
   -- Twelve lines after the header, 585 bytes with it: shown, and with a byte fewer refused with 7.
-  pub twelve_shown : (sheet_answer Display (crowd 12) [] [] 585 ≡ Written 585) × (sheet_answer Display (crowd 12) [] [] 584 ≡ Refused 7)
+  pub twelve_shown : (sheet_answer Display (crowd 12) [] [] 585 ≡ Ok 585) × (sheet_answer Display (crowd 12) [] [] 584 ≡ Err SheetRoom)
   -- Thirteen, 630 bytes: refused with 12, with ample room, with a byte too few and with none, and every byte is kept.
-  pub thirteen_refused : (sheet_answer Display (crowd 13) [] [] 1000 ≡ Refused 12) × (sheet_answer Display (crowd 13) [] [] 629 ≡ Refused 12) × (sheet_answer Display (crowd 13) [] [] 0 ≡ Refused 12)
+  pub thirteen_refused : (sheet_answer Display (crowd 13) [] [] 1000 ≡ Err MoreLines) × (sheet_answer Display (crowd 13) [] [] 629 ≡ Err MoreLines) × (sheet_answer Display (crowd 13) [] [] 0 ≡ Err MoreLines)
   pub thirteen_kept : sheet_after Display (crowd 13) [] [] (replicate 630 7) ≡ replicate 630 7
   -- A distance of 0.01 besides: 5, before 12.
-  pub five_first : sheet_answer Display (crowd_refused 13) [] [] 1000 ≡ Refused 5
+  pub five_first : sheet_answer Display (crowd_refused 13) [] [] 1000 ≡ Err Distance
   -- For the desk thirteen are written, by the length that it lends.
-  pub thirteen_for_desk : (sheet_answer Desk (crowd 13) [] [] 630 ≡ Written 630) × (sheet_answer Desk (crowd 13) [] [] 629 ≡ Refused 7)
+  pub thirteen_for_desk : (sheet_answer Desk (crowd 13) [] [] 630 ≡ Ok 630) × (sheet_answer Desk (crowd 13) [] [] 629 ≡ Err SheetRoom)
   -- Nine lines and the three of a place are twelve; ten and three are refused.
-  pub nine_and_three : sheet_answer Display (crowd_and_place 9) [] [] 585 ≡ Written 585
-  pub ten_and_three : sheet_answer Display (crowd_and_place 10) [] [] 630 ≡ Refused 12
+  pub nine_and_three : sheet_answer Display (crowd_and_place 9) [] [] 585 ≡ Ok 585
+  pub ten_and_three : sheet_answer Display (crowd_and_place 10) [] [] 630 ≡ Err MoreLines

@@ -13,14 +13,14 @@ use Rattle.lists.proofs.Maps.{flat_map, table_map}
 use Rattle.lists.proofs.Table.{table_same}
 use Rattle.game.specs.Players.{player_at}
 use Rattle.game.specs.declared.Player.{Player}
-use Rattle.game.specs.declared.SeenPose.{SeenPose}
-use Rattle.game.specs.declared.SeenPose.TheVariants.{Absent, Present}
 use Rattle.game.specs.declared.Side.{Side}
 use Rattle.game.specs.declared.Side.TheVariants.{Home, Away}
 use Rattle.game.specs.declared.Team.{Team}
 use Rattle.geometry.specs.Turned.{signed, changed_seen, changed_team}
 use Rattle.geometry.proofs.Turned.{distance_changed, player_at_changed, place_at_changed}
 use Rattle.clearance.specs.Clearance.{Spot, spot_of, spot_unless, spots_at, team_spots, earlier_spots, left_out, occupied, distance_from, least_of, clearance}
+use Rattle.std.specs.Prelude.{Option, None, Some}
+use Rattle.game.specs.declared.PlayerPose.{PlayerPose}
 
 -- a spot after the change
 abbrev pub changed_spot : Bool → Bool → Spot → Spot
@@ -29,9 +29,9 @@ changed_spot a b s = record { x = signed a s.x; y = signed b s.y }
 module _ (a b : Bool) where
   -- ---- who stands where
   -- the spot of a player that is present
-  spot_changed : (p : SeenPose) → spot_of (changed_seen a b p) ≡ map (changed_spot a b) (spot_of p)
-  spot_changed Absent = refl
-  spot_changed (Present p) = refl
+  spot_changed : (p : Option PlayerPose) → spot_of (changed_seen a b p) ≡ map (changed_spot a b) (spot_of p)
+  spot_changed None = refl
+  spot_changed (Some p) = refl
 
   -- the spots of a team's players
   spots_at_changed : (t : Team) (skip i : ℕ) → spots_at (changed_team a b t) skip i ≡ map (changed_spot a b) (spots_at t skip i)

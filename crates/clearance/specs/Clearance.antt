@@ -1,5 +1,5 @@
 -- How much space there is at a point: the distance to the nearest spot that is taken. Definitions only.
-use Rattle.std.specs.Prelude.{false, cond, List, [], ◌∷◌, ◌++◌, map, ℕ, suc, min, eqb, length, get_or, Float}
+use Rattle.std.specs.Prelude.{false, cond, List, [], ◌∷◌, ◌++◌, map, ℕ, suc, min, eqb, length, get_or, Float, Option, None, Some}
 use Rattle.std.specs.Float.{nan, inf}
 use Rattle.lists.specs.Table.{table}
 use Rattle.lists.specs.Gather.{flat_to}
@@ -10,10 +10,9 @@ use Rattle.game.specs.Game.{same_side}
 use Rattle.game.specs.Players.{player_at}
 use Rattle.game.specs.declared.Side.{Side}
 use Rattle.game.specs.declared.Side.TheVariants.{Home, Away}
-use Rattle.game.specs.declared.SeenPose.{SeenPose}
-use Rattle.game.specs.declared.SeenPose.TheVariants.{Absent, Present}
 use Rattle.game.specs.declared.Player.{Player}
 use Rattle.game.specs.declared.Team.{Team}
+use Rattle.game.specs.declared.PlayerPose.{PlayerPose}
 
 -- ---- who stands where
 -- a point of the field that is taken
@@ -22,9 +21,9 @@ pub record Spot : Type 0 where
   pub y : Float
 
 -- the spot of a player that is present
-abbrev pub spot_of : SeenPose → List Spot
-spot_of Absent = []
-spot_of (Present p) = record { x = p.x; y = p.y } ∷ []
+abbrev pub spot_of : Option PlayerPose → List Spot
+spot_of None = []
+spot_of (Some p) = record { x = p.x; y = p.y } ∷ []
 
 -- the spot of the player at the place i, unless its number is skip
 unfoldable pub spot_unless : ℕ → ℕ → Player → List Spot

@@ -4,7 +4,7 @@
 ghost use Rattle.std.specs.Prelude.{◌≡◌, map, ◌<◌};
 ghost use Rattle.clearance.specs.Clearance as Spec;
 
-use game::{Player, SeenPose, Side, Team};
+use game::{Player, Side, Team};
 
 // The lesser of the least distance so far and that of one spot. One that is as far in a single direction is no nearer, so that its distance is not computed.
 fn nearer(least: f32, dx: f32, dy: f32) -> f32
@@ -28,8 +28,8 @@ fn near_player(least: f32, player: Player, skip: u8, i: usize, x: f32, y: f32) -
         return least;
     }
     match pose {
-        SeenPose::Absent => least,
-        SeenPose::Present(p) => nearer(least, p.x - x, p.y - y),
+        None => least,
+        Some(p) => nearer(least, p.x - x, p.y - y),
     }
 }
 
@@ -39,11 +39,9 @@ fn near_team(least: f32, team: Team, skip: u8, x: f32, y: f32) -> f32
 {
     let players = team.players;
     let mut acc = least;
-    let mut i: usize = 0;
-    while i < 20 {
+    for i in 0..20 {
         let player = players[i];
         acc = near_player(acc, player, skip, i, x, y);
-        i += 1;
     }
     acc
 }
@@ -52,16 +50,10 @@ fn near_team(least: f32, team: Team, skip: u8, x: f32, y: f32) -> f32
 fn near_places<'a>(least: f32, xs: &'a [f32], ys: &'a [f32], x: f32, y: f32) -> f32
     ensures { result ≡ Spec.least_of least (map (Spec.distance_from x y) (Spec.earlier_spots xs.now ys.now)) }
 {
-    let n = if xs.len() < ys.len() {
-        xs.len()
-    } else {
-        ys.len()
-    };
+    let n = xs.len().min(ys.len());
     let mut acc = least;
-    let mut k: usize = 0;
-    while k < n {
+    for k in 0..n {
         acc = nearer(acc, xs[k] - x, ys[k] - y);
-        k += 1;
     }
     acc
 }

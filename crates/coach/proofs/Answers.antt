@@ -8,16 +8,18 @@ use borrow.Author.Tests.{eq-eqb, ne_eqb, leb-true}
 use lib.Dec.{eqb, leb, ltb}
 use lib.Ieee.{Float}
 use lib.ListN.{length, take, drop}
+use Rattle.std.specs.Prelude.{⊤, Result, Ok, Err}
 use Rattle.lists.specs.Put.{fronted_into}
 use Rattle.lists.specs.Refusals.{Requirement, first_refusal, all_numbered}
 use Rattle.lists.proofs.Bools.{both_true}
 use Rattle.game.specs.Players.{min_number, max_number}
 use Rattle.game.specs.declared.Side.{Side}
 use Rattle.game.specs.declared.Situation.{Situation}
+use Rattle.refusal.specs.Refusal.{refused, unless_refused}
+use Rattle.refusal.specs.declared.Refusal.{Refusal}
+use Rattle.refusal.proofs.Told.{refused_by}
 use Rattle.refusals.specs.Refusals.{field_fits, poses_fit, ball_fits, numbers_fit, distance_fits, is_player_number, five, requirements_of, refusal_of}
 use Rattle.sheet.specs.Sheet.{bytes_in}
-use Rattle.sheet.specs.declared.text.SheetAnswer.{SheetAnswer}
-use Rattle.sheet.specs.declared.text.SheetAnswer.TheVariants.{Refused, Written}
 use Rattle.sheet.proofs.Texts.{call_answer, call_after, answer_by, after_by, call_room}
 use Rattle.coach.specs.Coach.{sentence_of, asked_requirements, coach_requirements, sentence_answer, sentence_after, sentences_of, sentences_answer, sentences_after, line_answer, with_number, text_answer, text_after}
 
@@ -63,36 +65,43 @@ unfolding requirements_of
 numbered s xs ys = refl
 
 -- a number that is not refused
-pub number_fits_holds : (r n : ℕ) → with_number r n ≡ 0 → (min_number ≤ n) × (n ≤ max_number)
-number_fits_holds r n e = go (is_player_number n) refl
+fits : (r n : ℕ) → with_number r n ≡ 0 → is_player_number n ≡ true
+fits r n e = go (is_player_number n) refl
   where
-    inside : is_player_number n ≡ true → (min_number ≤ n) × (n ≤ max_number)
-    inside t = let both = both_true (leb min_number n) (leb n max_number) t in (leb-true min_number n both.0, leb-true n max_number both.1)
-
     never : (a b : Bool) → eqb r 0 ≡ a → cond ((a || b) && true) 4 r ≡ 0 → ⊥
     never true b p q = let z : ◌≡◌ {A = ℕ} 4 0 = q in omega (arith, z)
     never false true p q = let z : ◌≡◌ {A = ℕ} 4 0 = q in omega (arith, z)
     never false false p q = let z : ◌≡◌ {A = ℕ} 0 1 = cc (ap (λ (k : ℕ). eqb k 0) q) in omega arith
 
-    go : (b : Bool) → is_player_number n ≡ b → (min_number ≤ n) × (n ≤ max_number)
-    go true t = inside t
+    go : (b : Bool) → is_player_number n ≡ b → is_player_number n ≡ true
+    go true t = t
     go false t = absurd (never (eqb r 0) (eqb r 5) refl (ap (λ (b : Bool). cond ((eqb r 0 || eqb r 5) && not b) 4 r) (sym t) ∙ e))
+
+pub number_fits_holds : (r n : ℕ) → with_number r n ≡ 0 → (min_number ≤ n) × (n ≤ max_number)
+number_fits_holds r n e = let both = both_true (leb min_number n) (leb n max_number) (fits r n e) in (leb-true min_number n both.0, leb-true n max_number both.1)
+
+-- it refuses nothing by itself
+pub number_alone : (r n : ℕ) → with_number r n ≡ 0 → with_number 0 n ≡ with_number r n
+number_alone r n e = ap (λ (b : Bool). cond (true && not b) 4 0) (fits r n e) ∙ sym e
 
 -- ---- where the first refusal but 8 is known
 module _ (refusal : ℕ) (text s : List ℕ) where
-  pub text_refused : (refusal ≡ 0 → ⊥) → (Refused refusal ≡ text_answer refusal text (length s)) × (s ≡ text_after refusal text s)
+  pub text_refused : (r : Refusal) → ◌≡◌ {A = Result ⊤ Refusal} (Err r) (unless_refused refusal tt) → (Err r ≡ text_answer refusal text (length s)) × (s ≡ text_after refusal text s)
   unfolding text_answer text_after
-  text_refused h = let no = ne_eqb refusal 0 h in (ap (λ (b : Bool). cond b (line_answer text (length s)) (Refused refusal)) (sym no), ap (λ (b : Bool). cond b (fronted_into text s) s) (sym no))
+  text_refused r e =
+      let h = refused_by refusal tt r e in
+      let no = ne_eqb refusal 0 h.0 in
+      (ap Err h.1 ∙ ap (λ (b : Bool). cond b (line_answer text (length s)) (refused refusal)) (sym no), ap (λ (b : Bool). cond b (fronted_into text s) s) (sym no))
 
-  pub text_told : (r : SheetAnswer) (next : List ℕ) → refusal ≡ 0 → r ≡ line_answer text (length s) → next ≡ fronted_into text s → (r ≡ text_answer refusal text (length s)) × (next ≡ text_after refusal text s)
+  pub text_told : (r : Result ℕ Refusal) (next : List ℕ) → refusal ≡ 0 → r ≡ line_answer text (length s) → next ≡ fronted_into text s → (r ≡ text_answer refusal text (length s)) × (next ≡ text_after refusal text s)
   unfolding text_answer text_after
   text_told r next h e p =
-      let yes = eq-eqb refusal 0 h in (e ∙ ap (λ (b : Bool). cond b (line_answer text (length s)) (Refused refusal)) (sym yes), p ∙ ap (λ (b : Bool). cond b (fronted_into text s) s) (sym yes))
+      let yes = eq-eqb refusal 0 h in (e ∙ ap (λ (b : Bool). cond b (line_answer text (length s)) (refused refusal)) (sym yes), p ∙ ap (λ (b : Bool). cond b (fronted_into text s) s) (sym yes))
 
 -- by the test of the lent bytes
-text_by : (refusal : ℕ) (text : List ℕ) (lent : ℕ) → text_answer refusal text lent ≡ cond (eqb refusal 0) (cond (ltb lent (length text)) (Refused 8) (Written (length text))) (Refused refusal)
+text_by : (refusal : ℕ) (text : List ℕ) (lent : ℕ) → text_answer refusal text lent ≡ cond (eqb refusal 0) (cond (ltb lent (length text)) (refused 8) (Ok (length text))) (refused refusal)
 unfolding text_answer
-text_by refusal text lent = ap (λ (a : SheetAnswer). cond (eqb refusal 0) a (Refused refusal)) (answer_by [] 8 text refl refl lent)
+text_by refusal text lent = ap (λ (a : Result ℕ Refusal). cond (eqb refusal 0) a (refused refusal)) (answer_by [] 8 text refl refl lent)
 
 -- the two calls, by the situation's first refusal
 module _ (s : Situation) (xs ys : List Float) (own : ℕ) (first : own ≡ refusal_of s xs ys) where
@@ -121,12 +130,12 @@ module _ (s : Situation) (xs ys : List Float) (own : ℕ) (first : own ≡ refus
 -- no more bytes are written than were lent
 pub sentence_room : (s : Situation) (xs ys : List Float) (side : Side) (n lent : ℕ) → bytes_in (sentence_answer s xs ys side n lent) ≤ lent
 sentence_room s xs ys side n lent =
-    subst (λ (a : SheetAnswer). bytes_in a ≤ lent) (sym (answer_as s xs ys side n lent)) (call_room (asked_requirements s xs ys n) 8 (sentence_of s side n) (asked_numbered s xs ys n) refl lent)
+    subst (λ (a : Result ℕ Refusal). bytes_in a ≤ lent) (sym (answer_as s xs ys side n lent)) (call_room (asked_requirements s xs ys n) 8 (sentence_of s side n) (asked_numbered s xs ys n) refl lent)
 
 -- ---- the lines on all
 module _ (s : Situation) (xs ys : List Float) where
   -- by whether the situation itself is refused, and by the test of the lent bytes
-  pub answer_cases : (lent : ℕ) → sentences_answer s xs ys lent ≡ cond (eqb (refusal_of s xs ys) 0) (cond (ltb lent (length (sentences_of s))) (Refused 8) (Written (length (sentences_of s)))) (Refused (refusal_of s xs ys))
+  pub answer_cases : (lent : ℕ) → sentences_answer s xs ys lent ≡ cond (eqb (refusal_of s xs ys) 0) (cond (ltb lent (length (sentences_of s))) (refused 8) (Ok (length (sentences_of s)))) (refused (refusal_of s xs ys))
   unfolding sentences_answer refusal_of
   answer_cases lent = answer_by (requirements_of s xs ys) 8 (sentences_of s) (numbered s xs ys) refl lent
 

@@ -17,10 +17,7 @@ use Rattle.lists.proofs.Fronted.{into_fits, into_short}
 use Rattle.lists.proofs.Gather.{flat_same}
 use Rattle.lists.proofs.Table.{table_at}
 use Rattle.game.specs.Players.{player_at, player_numbered, margins_at, team_of, number_at}
-use Rattle.game.specs.declared.MaybeMargins.{MaybeMargins}
-use Rattle.game.specs.declared.MaybeMargins.TheVariants.{NoMargins}
 use Rattle.game.specs.declared.Player.{Player}
-use Rattle.game.specs.declared.PlayerMargins.{PlayerMargins}
 use Rattle.game.specs.declared.Side.{Side}
 use Rattle.game.specs.declared.Side.TheVariants.{Home, Away}
 use Rattle.game.specs.declared.Situation.{Situation}
@@ -29,40 +26,40 @@ use Rattle.lines.proofs.Over.{over_front, over_one, over_part, over_then, over_l
 use Rattle.conditions.specs.Conditions.{verdict_of, is_some}
 use Rattle.conditions.specs.declared.Condition.{Condition}
 use Rattle.conditions.specs.declared.Condition.TheVariants.{NoCondition}
-use Rattle.conditions.specs.declared.PlayerCondition.{PlayerCondition}
 use Rattle.geometry.specs.Geometry.{side_to_sign, player_margins, compute_margins}
 use Rattle.positioning.specs.Positioning.{condition_of, condition_at, team_conditions}
 use Rattle.sentences.specs.Sentences.{line_of, longest, written}
 use Rattle.sentences.proofs.Claims.{longest_long, never_empty}
 use Rattle.sheet.specs.Sheet.{bytes_in}
-use Rattle.sheet.specs.declared.text.SheetAnswer.{SheetAnswer}
-use Rattle.sheet.specs.declared.text.SheetAnswer.TheVariants.{Refused, Written}
 use Rattle.sheet.proofs.Texts.{text_short, text_fits}
 use Rattle.coach.specs.Coach.{condition_for, line_for, sentence_of, line_answer, ended, side_sentences, sentences_of, side_conditions, lines_for}
+use Rattle.std.specs.Prelude.{Option, None, Result, Ok, Err}
+use Rattle.refusal.specs.declared.Refusal.{Refusal}
+use Rattle.refusal.specs.declared.Refusal.TheVariants.{TextRoom}
+use Rattle.game.specs.declared.Margins.{Margins}
 
 -- ---- the conditions on a side's players
 module _ (s : Situation) (side : Side) (i : ℕ) (h : i < 20) where
-  pub margins_told : margins_at (compute_margins (team_of s side) s.field (side_to_sign side s.game.sides)) i ≡ (player_margins (player_at (team_of s side) i) s.field (side_to_sign side s.game.sides)).margins
+  pub margins_told : margins_at (compute_margins (team_of s side) s.field (side_to_sign side s.game.sides)) i ≡ (player_margins (player_at (team_of s side) i) s.field (side_to_sign side s.game.sides))
   unfolding compute_margins
-  margins_told = ap (λ (m : PlayerMargins). m.margins) (table_at 20 (λ k. player_margins (player_at (team_of s side) k) s.field (side_to_sign side s.game.sides)) (record { margins = NoMargins }) i h)
+  margins_told = (table_at 20 (λ k. player_margins (player_at (team_of s side) k) s.field (side_to_sign side s.game.sides)) None i h)
 
   -- that of a player by its number is that by its place
   pub condition_told : condition_for s side (number_at i)
       ≡ condition_of s.game s.field s.ball side (team_of s side).goalkeeper (number_at i) (player_at (team_of s side) i) (margins_at (compute_margins (team_of s side) s.field (side_to_sign side s.game.sides)) i)
   unfolding condition_for
   condition_told =
-      ap (λ (q : Player). condition_of s.game s.field s.ball side (team_of s side).goalkeeper (number_at i) q (player_margins q s.field (side_to_sign side s.game.sides)).margins) (ap (player_numbered (team_of s side)) (add-one i))
-      ∙ ap (λ (m : MaybeMargins). condition_of s.game s.field s.ball side (team_of s side).goalkeeper (number_at i) (player_at (team_of s side) i) m) (sym margins_told)
+      ap (λ (q : Player). condition_of s.game s.field s.ball side (team_of s side).goalkeeper (number_at i) q (player_margins q s.field (side_to_sign side s.game.sides))) (ap (player_numbered (team_of s side)) (add-one i))
+      ∙ ap (λ (m : Option Margins). condition_of s.game s.field s.ball side (team_of s side).goalkeeper (number_at i) (player_at (team_of s side) i) m) (sym margins_told)
 
-  pub condition_at_holds : (get_or (side_conditions s side) i (record { condition = NoCondition })).condition ≡ condition_for s side (number_at i)
+  pub condition_at_holds : get_or (side_conditions s side) i NoCondition ≡ condition_for s side (number_at i)
   unfolding side_conditions team_conditions
   condition_at_holds =
-      ap (λ (c : PlayerCondition). c.condition)
-      (table_at 20 (condition_at s.game s.field s.ball side (team_of s side) (compute_margins (team_of s side) s.field (side_to_sign side s.game.sides))) (record { condition = NoCondition }) i h)
+      (table_at 20 (condition_at s.game s.field s.ball side (team_of s side) (compute_margins (team_of s side) s.field (side_to_sign side s.game.sides))) NoCondition i h)
       ∙ sym condition_told
 
 -- of a number that is not refused
-pub numbered_at : (s : Situation) (side : Side) (n : ℕ) → 1 ≤ n → n ≤ 20 → (get_or (side_conditions s side) (n - 1) (record { condition = NoCondition })).condition ≡ condition_for s side n
+pub numbered_at : (s : Situation) (side : Side) (n : ℕ) → 1 ≤ n → n ≤ 20 → (get_or (side_conditions s side) (n - 1) NoCondition) ≡ condition_for s side n
 numbered_at s side n low high =
     let back : number_at (n - 1) ≡ n = omega arith in
     condition_at_holds s side (n - 1) (omega arith) ∙ ap (condition_for s side) back
@@ -70,7 +67,7 @@ numbered_at s side n low high =
 -- ---- the line of a condition
 module _ (side : Side) (n : ℕ) (c : Condition) (text : List ℕ) where
   -- there is none
-  pub legal_told : is_some c ≡ false → (Written 0 ≡ line_answer (line_for side n c) (length text)) × (text ≡ fronted_into (line_for side n c) text)
+  pub legal_told : is_some c ≡ false → (Ok 0 ≡ line_answer (line_for side n c) (length text)) × (text ≡ fronted_into (line_for side n c) text)
   unfolding fronted
   legal_told e =
       let empty : line_for side n c ≡ [] = ap (λ (b : Bool). cond b (line_of side n (verdict_of c) c) []) e in (
@@ -90,7 +87,7 @@ module _ (side : Side) (n : ℕ) (c : Condition) (text : List ℕ) where
     unfolding written
     size_by b q = told ∙ ap (λ (z : Bool). cond z 0 (length (line_of side n (verdict_of c) c))) q
 
-    pub line_short : size ≡ 0 → (Refused 8 ≡ line_answer (line_for side n c) (length text)) × (next ≡ fronted_into (line_for side n c) text)
+    pub line_short : size ≡ 0 → (Err TextRoom ≡ line_answer (line_for side n c) (length text)) × (next ≡ fronted_into (line_for side n c) text)
     line_short z = (
       by_test (ltb (length text) (length (line_of side n (verdict_of c) c)))
           (λ t. text_short [] 8 (line_of side n (verdict_of c) c) refl refl (length text) (ltb-true _ _ t) ∙ ap (λ (l : List ℕ). line_answer l (length text)) (sym line))
@@ -98,11 +95,11 @@ module _ (side : Side) (n : ℕ) (c : Condition) (text : List ℕ) where
       kept,
     )
 
-    pub line_fits : (size ≡ 0 → ⊥) → (Written size ≡ line_answer (line_for side n c) (length text)) × (next ≡ fronted_into (line_for side n c) text)
+    pub line_fits : (size ≡ 0 → ⊥) → (Ok size ≡ line_answer (line_for side n c) (length text)) × (next ≡ fronted_into (line_for side n c) text)
     line_fits h = (
       by_test (ltb (length text) (length (line_of side n (verdict_of c) c)))
           (λ t. absurd (h (size_by true t)))
-          (λ f. ap Written (size_by false f) ∙ text_fits [] 8 (line_of side n (verdict_of c) c) refl refl (length text) (ltb-false _ _ f) ∙ ap (λ (l : List ℕ). line_answer l (length text)) (sym line)),
+          (λ f. ap Ok (size_by false f) ∙ text_fits [] 8 (line_of side n (verdict_of c) c) refl refl (length text) (ltb-false _ _ f) ∙ ap (λ (l : List ℕ). line_answer l (length text)) (sym line)),
       kept,
     )
 
@@ -128,7 +125,7 @@ ended_few [] k h = omega arith
 ended_few (x ∷ l) k h = omega (arith, length-append (x ∷ l) (10 ∷ []))
 
 module _ (side : Side) (n : ℕ) (c : Condition) (lines : List ℕ) (at : ℕ) (room : at + 75 ≤ length lines)
-    (answer : SheetAnswer) (part : List ℕ) (told : answer ≡ line_answer (line_for side n c) (length (take (length lines - at) (drop at lines))))
+    (answer : Result ℕ Refusal) (part : List ℕ) (told : answer ≡ line_answer (line_for side n c) (length (take (length lines - at) (drop at lines))))
     (left : part ≡ fronted_into (line_for side n c) (take (length lines - at) (drop at lines))) (size : ℕ) (sized : size ≡ bytes_in answer) where
   part_long : length (take (length lines - at) (drop at lines)) ≡ length lines - at
   part_long = omega (arith, length-take (length lines - at) (drop at lines), length-drop at lines)
@@ -173,10 +170,10 @@ module _ (side : Side) (n : ℕ) (c : Condition) (lines : List ℕ) (at : ℕ) (
       )
 
 -- ---- a side's lines
-module _ (side : Side) (conditions : List PlayerCondition) where
+module _ (side : Side) (conditions : List Condition) where
   -- the line on the player at a place, with a line feed
   abbrev pub line_at : ℕ → List ℕ
-  line_at i = ended (line_for side (number_at i) (get_or conditions i (record { condition = NoCondition })).condition)
+  line_at i = ended (line_for side (number_at i) (get_or conditions i NoCondition))
 
   -- the first i
   abbrev pub lines_to : ℕ → List ℕ
@@ -186,7 +183,7 @@ module _ (side : Side) (conditions : List PlayerCondition) where
   unfolding flat_to
   lines_few zero = omega arith
   lines_few (suc i) =
-      let c = (get_or conditions i (record { condition = NoCondition })).condition in
+      let c = get_or conditions i NoCondition in
       omega (arith, lines_few i, length-append (lines_to i) (line_at i), ended_few (line_for side (number_at i) c) longest (line_few side (number_at i) c), mul-suc 75 i)
 
   pub lines_none : (at : ℕ) (xs : List ℕ) → Stage at xs (lines_to 0) xs at
@@ -206,7 +203,7 @@ module _ (side : Side) (conditions : List PlayerCondition) where
   side_few = omega (arith, lines_few 20)
 
 -- those of a situation's conditions are its sentences
-pub lines_told : (s : Situation) (side : Side) (conditions : List PlayerCondition) → conditions ≡ side_conditions s side → lines_for side conditions ≡ side_sentences s side
+pub lines_told : (s : Situation) (side : Side) (conditions : List Condition) → conditions ≡ side_conditions s side → lines_for side conditions ≡ side_sentences s side
 unfolding lines_for side_sentences sentence_of
 lines_told s side conditions e =
     ap (lines_for side) e
@@ -220,7 +217,7 @@ pub record AllWritten (s : Situation) (cur : List ℕ) (end : ℕ) : Type 0 wher
   pub inside : end ≤ length cur
 
 -- one side's after the other's
-pub all_written : (s : Situation) (home away : List PlayerCondition) → home ≡ side_conditions s Home → away ≡ side_conditions s Away → (lines mid cur : List ℕ) (middle end : ℕ) → length lines ≡ 3000 → mid ≡ over 0 (lines_for Home home) lines
+pub all_written : (s : Situation) (home away : List Condition) → home ≡ side_conditions s Home → away ≡ side_conditions s Away → (lines mid cur : List ℕ) (middle end : ℕ) → length lines ≡ 3000 → mid ≡ over 0 (lines_for Home home) lines
     → middle ≡ 0 + length (lines_for Home home) → length mid ≡ length lines → cur ≡ over middle (lines_for Away away) mid → end ≡ middle + length (lines_for Away away) → length cur ≡ length mid → AllWritten s cur end
 unfolding sentences_of fronted
 all_written s home away a b lines mid cur middle end room p m l q e k =
@@ -237,18 +234,18 @@ all_written s home away a b lines mid cur middle end room p m l q e k =
 
 module _ (s : Situation) (cur : List ℕ) (end : ℕ) (w : AllWritten s cur end) where
   -- the text is shorter
-  pub all_short_holds : (text : List ℕ) → length text < end → (Refused 8 ≡ line_answer (sentences_of s) (length text)) × (text ≡ fronted_into (sentences_of s) text)
+  pub all_short_holds : (text : List ℕ) → length text < end → (Err TextRoom ≡ line_answer (sentences_of s) (length text)) × (text ≡ fronted_into (sentences_of s) text)
   all_short_holds text h =
       let short : length text < length (sentences_of s) = omega (arith, w.far) in
       (text_short [] 8 (sentences_of s) refl refl (length text) short, sym (into_short (sentences_of s) text short))
 
   -- it is not, and they were copied
   pub all_copied : (text next : List ℕ) (n : ℕ) → end ≤ length text → n ≡ length (take end cur) → next ≡ take (length (take end cur)) (take end cur) ++ drop (length (take end cur)) text
-      → (Written n ≡ line_answer (sentences_of s) (length text)) × (next ≡ fronted_into (sentences_of s) text)
+      → (Ok n ≡ line_answer (sentences_of s) (length text)) × (next ≡ fronted_into (sentences_of s) text)
   unfolding fronted
   all_copied text next n h z e =
       let fits : length (sentences_of s) ≤ length text = omega (arith, w.far) in (
-        ap Written (z ∙ ap length w.front) ∙ text_fits [] 8 (sentences_of s) refl refl (length text) fits,
+        ap Ok (z ∙ ap length w.front) ∙ text_fits [] 8 (sentences_of s) refl refl (length text) fits,
         e
             ∙ ap (λ (t : List ℕ). take (length t) t ++ drop (length t) text) w.front
             ∙ ap (λ (t : List ℕ). t ++ drop (length (sentences_of s)) text) (take-length (sentences_of s))
@@ -256,11 +253,11 @@ module _ (s : Situation) (cur : List ℕ) (end : ℕ) (w : AllWritten s cur end)
       )
 
   -- the same where they were copied into the part of that length
-  pub all_stored : (text part : List ℕ) → end ≤ length text → part ≡ take end cur → (Written end ≡ line_answer (sentences_of s) (length text)) × (part ++ drop end text ≡ fronted_into (sentences_of s) text)
+  pub all_stored : (text part : List ℕ) → end ≤ length text → part ≡ take end cur → (Ok end ≡ line_answer (sentences_of s) (length text)) × (part ++ drop end text ≡ fronted_into (sentences_of s) text)
   unfolding fronted
   all_stored text part h e =
       let fits : length (sentences_of s) ≤ length text = omega (arith, w.far) in (
-        ap Written w.far ∙ text_fits [] 8 (sentences_of s) refl refl (length text) fits,
+        ap Ok w.far ∙ text_fits [] 8 (sentences_of s) refl refl (length text) fits,
         ap (λ (t : List ℕ). t ++ drop end text) (e ∙ w.front)
             ∙ ap (λ (k : ℕ). sentences_of s ++ drop k text) w.far
             ∙ sym (into_fits (sentences_of s) text fits),

@@ -1,5 +1,5 @@
 -- The coach's calls: the line on one player, or those on all that do not stand legally, by the first refusal of a list or the text. Definitions only.
-use Rattle.std.specs.Prelude.{not, ◌&&◌, ◌||◌, cond, List, [], ◌∷◌, ◌++◌, ℕ, eqb, leb, Float, length, take, drop, get_or}
+use Rattle.std.specs.Prelude.{not, ◌&&◌, ◌||◌, cond, Result, List, [], ◌∷◌, ◌++◌, ℕ, eqb, leb, Float, length, take, drop, get_or}
 use Rattle.lists.specs.Gather.{flat_to}
 use Rattle.lists.specs.Put.{fronted, fronted_into}
 use Rattle.lists.specs.Refusals.{Requirement, first_refusal}
@@ -11,13 +11,12 @@ use Rattle.geometry.specs.Geometry.{side_to_sign, player_margins, compute_margin
 use Rattle.conditions.specs.Conditions.{verdict_of, is_some}
 use Rattle.conditions.specs.declared.Condition.{Condition}
 use Rattle.conditions.specs.declared.Condition.TheVariants.{NoCondition}
-use Rattle.conditions.specs.declared.PlayerCondition.{PlayerCondition}
 use Rattle.positioning.specs.Positioning.{condition_of, team_conditions}
+use Rattle.refusal.specs.Refusal.{refused}
+use Rattle.refusal.specs.declared.Refusal.{Refusal}
 use Rattle.refusals.specs.Refusals.{is_player_number, requirements_of}
 use Rattle.sentences.specs.Sentences.{line_of}
 use Rattle.sheet.specs.Sheet.{answered}
-use Rattle.sheet.specs.declared.text.SheetAnswer.{SheetAnswer}
-use Rattle.sheet.specs.declared.text.SheetAnswer.TheVariants.{Refused}
 
 -- ---- the line on one player
 -- the condition that settles the verdict on the player of a side with this number
@@ -25,7 +24,7 @@ unfoldable pub condition_for : Situation → Side → ℕ → Condition
 condition_for s side n =
     let team = team_of s side in
     let player = player_numbered team n in
-    condition_of s.game s.field s.ball side team.goalkeeper n player (player_margins player s.field (side_to_sign side s.game.sides)).margins
+    condition_of s.game s.field s.ball side team.goalkeeper n player (player_margins player s.field (side_to_sign side s.game.sides))
 
 -- the line of a condition; without one the player stands legally, and the line is empty
 abbrev pub line_for : Side → ℕ → Condition → List ℕ
@@ -52,7 +51,7 @@ abbrev pub coach_requirements : Situation → List Float → List Float → Side
 coach_requirements s xs ys side n lent = asked_requirements s xs ys n ++ (room_for (sentence_of s side n) lent ∷ [])
 
 -- the first refusal, else the line's length
-unfoldable pub sentence_answer : Situation → List Float → List Float → Side → ℕ → ℕ → SheetAnswer
+unfoldable pub sentence_answer : Situation → List Float → List Float → Side → ℕ → ℕ → Result ℕ Refusal
 sentence_answer s xs ys side n lent = answered (first_refusal (coach_requirements s xs ys side n lent)) (length (sentence_of s side n))
 
 -- a refusal keeps every byte; else the line and after it the bytes that were there
@@ -78,7 +77,7 @@ abbrev pub all_requirements : Situation → List Float → List Float → ℕ �
 all_requirements s xs ys lent = requirements_of s xs ys ++ (room_for (sentences_of s) lent ∷ [])
 
 -- the first refusal, else the length of the text
-unfoldable pub sentences_answer : Situation → List Float → List Float → ℕ → SheetAnswer
+unfoldable pub sentences_answer : Situation → List Float → List Float → ℕ → Result ℕ Refusal
 sentences_answer s xs ys lent = answered (first_refusal (all_requirements s xs ys lent)) (length (sentences_of s))
 
 -- a refusal keeps every byte; else the text and after it the bytes that were there
@@ -87,7 +86,7 @@ sentences_after s xs ys text = cond (eqb (first_refusal (all_requirements s xs y
 
 -- ---- where the first refusal but 8 is known
 -- 8, or the length of a text
-abbrev pub line_answer : List ℕ → ℕ → SheetAnswer
+abbrev pub line_answer : List ℕ → ℕ → Result ℕ Refusal
 line_answer text lent = answered (first_refusal (room_for text lent ∷ [])) (length text)
 
 -- the first refusal of a situation, with 4 of the number that is asked for before 5
@@ -95,8 +94,8 @@ abbrev pub with_number : ℕ → ℕ → ℕ
 with_number refusal n = cond ((eqb refusal 0 || eqb refusal 5) && not (is_player_number n)) 4 refusal
 
 -- it, 8, or the length of a text
-unfoldable pub text_answer : ℕ → List ℕ → ℕ → SheetAnswer
-text_answer refusal text lent = cond (eqb refusal 0) (line_answer text lent) (Refused refusal)
+unfoldable pub text_answer : ℕ → List ℕ → ℕ → Result ℕ Refusal
+text_answer refusal text lent = cond (eqb refusal 0) (line_answer text lent) (refused refusal)
 
 -- a refusal keeps every byte; else the text and after it the bytes that were there
 unfoldable pub text_after : ℕ → List ℕ → List ℕ → List ℕ
@@ -104,9 +103,9 @@ text_after refusal text s = cond (eqb refusal 0) (fronted_into text s) s
 
 -- ---- of private functions
 -- the conditions on a side's players by their places
-unfoldable pub side_conditions : Situation → Side → List PlayerCondition
+unfoldable pub side_conditions : Situation → Side → List Condition
 side_conditions s side = team_conditions s.game s.field s.ball side (team_of s side) (compute_margins (team_of s side) s.field (side_to_sign side s.game.sides))
 
 -- the lines of a list of conditions
-unfoldable pub lines_for : Side → List PlayerCondition → List ℕ
-lines_for side conditions = flat_to 20 (λ i. ended (line_for side (number_at i) (get_or conditions i (record { condition = NoCondition })).condition))
+unfoldable pub lines_for : Side → List Condition → List ℕ
+lines_for side conditions = flat_to 20 (λ i. ended (line_for side (number_at i) (get_or conditions i NoCondition)))

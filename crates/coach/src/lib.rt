@@ -1,22 +1,23 @@
 // The coach's calls: the line on one player, or those on all players that do not stand legally.
 #![tactic(auto)]
 
-ghost use Rattle.std.specs.Prelude.{◌≡◌, ◌+◌, ◌≤◌, length};
+ghost use Rattle.std.specs.Prelude.{◌≡◌, ◌||◌, ◌+◌, ◌≤◌, eqb, length};
 ghost use Rattle.lists.specs.Put.{fronted_into};
 ghost use Rattle.lines.specs.Over.{over};
+ghost use Rattle.refusal.specs.Refusal.{unless_refused, number_in};
 ghost use Rattle.sheet.specs.Sheet.{bytes_in};
 ghost use Rattle.coach.specs.Coach as Spec;
 
-use conditions::{Condition, PlayerCondition};
+use conditions::Condition;
 use game::{Side, Situation};
-use sheet::SheetAnswer;
+use refusal::Refusal;
 
 // Room for the lines of both sides: 40 of the longest, each with a line feed.
 const ROOM: usize = 3000;
 
 // The conditions on a side's players.
 #[tactic(auto, unfolding(crate::specs::Coach::side_conditions, seen::specs::Seen::side_seen))]
-fn side_conditions(s: Situation, side: Side) -> [PlayerCondition; 20]
+fn side_conditions(s: Situation, side: Side) -> [Condition; 20]
     ensures { result ≡ Spec.side_conditions s side }
 {
     let game = s.game;
@@ -28,66 +29,68 @@ fn side_conditions(s: Situation, side: Side) -> [PlayerCondition; 20]
     positioning::team_conditions(game, field, ball, side, team, margins)
 }
 
-// Writes the line of a player's condition at the front of the lent text; without one, for a player that stands legally, none is written. Where the text is shorter than the
-// line, 8 is answered and all of it is kept.
-fn sentence(side: Side, number: u8, condition: Condition, text: &mut [u8]) -> SheetAnswer
+// Writes the line of a player's condition at the front of the lent text, and answers its length; without one, for a player that stands legally, none is written. Where the text is
+// shorter than the line, all of it is kept.
+fn sentence(side: Side, number: u8, condition: Condition, text: &mut [u8]) -> Result<usize, Refusal>
     ensures value { result ≡ Spec.line_answer (Spec.line_for side number condition) (length text.old) }
     ensures text_after { text.new ≡ fronted_into (Spec.line_for side number condition) text.old }
 {
     if !conditions::is_some(condition) {
-        return SheetAnswer::Written(0);
+        return Ok(0);
     }
     let verdict = conditions::verdict_of(condition);
     let size = sentences::coach_line(side, number, verdict, condition, text);
     if size == 0 {
-        return SheetAnswer::Refused(8);
+        return Err(Refusal::TextRoom);
     }
-    SheetAnswer::Written(size)
+    Ok(size)
 }
 
-// The first refusal, with the number that is asked for among the situation's: 4 of it comes before 5.
-fn with_number(refusal: u8, number: u32) -> u8
-    ensures { result ≡ Spec.with_number refusal number }
+// Whether a refusal of the number that is asked for comes before what is told of the situation.
+fn comes_after_number(own: Result<(), Refusal>) -> bool
+    ensures { result ≡ (eqb (number_in own) 0 || eqb (number_in own) 5) }
+{
+    matches!(own, Ok(()) | Err(Refusal::Distance))
+}
+
+// The first refusal of a situation with the number that is asked for: that of it comes before the distance.
+pub fn with_number(own: Result<(), Refusal>, number: u32) -> Result<(), Refusal>
+    ensures { result ≡ unless_refused (Spec.with_number (number_in own) number) tt }
 {
     let numbered = (game::MIN as u32 <= number) & (number <= game::MAX as u32);
-    if ((refusal == 0) | (refusal == 5)) & !numbered {
-        return 4;
+    if comes_after_number(own) & !numbered {
+        return Err(Refusal::Number);
     }
-    refusal
+    own
 }
 
-// Writes the line on one player of a situation, of which the first refusal is handed in, at the front of the lent text; the bytes after it are kept. Answers the line's length, 0 for
-// a player that stands legally. A refusal, that or 4 of the number, and then 8, keeps every byte.
+// Writes the line on one player of a situation at the front of the lent text; the bytes after it are kept. Answers the line's length, 0 for a player that stands legally. A refusal,
+// of the number and then of the text, keeps every byte.
 #[tactic(auto, unfolding(crate::specs::Coach::sentence_of))]
 pub fn write_sentence(
-    own: u8,
     s: Situation,
     side: Side,
     number: u32,
     text: &mut [u8],
-) -> SheetAnswer
-    ensures value { result ≡ Spec.text_answer (Spec.with_number own number) (Spec.sentence_of s side number) (length text.old) }
-    ensures text_after { text.new ≡ Spec.text_after (Spec.with_number own number) (Spec.sentence_of s side number) text.old }
+) -> Result<usize, Refusal>
+    ensures value { result ≡ Spec.text_answer (Spec.with_number 0 number) (Spec.sentence_of s side number) (length text.old) }
+    ensures text_after { text.new ≡ Spec.text_after (Spec.with_number 0 number) (Spec.sentence_of s side number) text.old }
 {
-    let refusal = with_number(own, number);
-    if refusal != 0 {
-        return SheetAnswer::Refused(refusal);
-    }
+    with_number(Ok(()), number)?;
     let conditions = side_conditions(s, side);
     let i = (number - 1) as usize;
-    let slot = conditions[i];
-    let condition = slot.condition;
+    let condition = conditions[i];
     let n = number as u8;
     sentence(side, n, condition, text)
 }
 
 // How many bytes an answer tells of.
-fn bytes_in(answer: SheetAnswer) -> usize
+fn bytes_in(answer: Result<usize, Refusal>) -> usize
     ensures { result ≡ bytes_in answer }
 {
     match answer {
-        SheetAnswer::Refused(_) => 0,
-        SheetAnswer::Written(n) => n,
+        Err(_) => 0,
+        Ok(n) => n,
     }
 }
 
@@ -115,45 +118,34 @@ fn ended_sentence(
 
 // The same for a side's players, in the order of their numbers.
 #[tactic(auto, unfolding(crate::specs::Coach::lines_for))]
-fn side_sentences(
-    side: Side,
-    conditions: [PlayerCondition; 20],
-    lines: &mut [u8],
-    at: usize,
-) -> usize
+fn side_sentences(side: Side, conditions: [Condition; 20], lines: &mut [u8], at: usize) -> usize
     requires { at + 1500 ≤ length lines.old }
     ensures value { result ≡ at + length (Spec.lines_for side conditions) }
     ensures lines_after { lines.new ≡ over at (Spec.lines_for side conditions) lines.old }
 {
     let mut next = at;
-    let mut i: usize = 0;
-    while i < 20 {
-        let slot = conditions[i];
-        let condition = slot.condition;
+    for i in 0..20 {
+        let condition = conditions[i];
         let number = (i + 1) as u8;
         next = ended_sentence(side, number, condition, lines, next);
-        i += 1;
     }
     next
 }
 
-// Writes the lines on all players of a situation, of which the first refusal is handed in, that do not stand legally at the front of the lent text, in the order of the sheet,
-// each with a line feed; the bytes after them are kept. A refusal, that and then 8, keeps every byte.
-pub fn write_sentences(refusal: u8, s: Situation, text: &mut [u8]) -> SheetAnswer
-    ensures value { result ≡ Spec.text_answer refusal (Spec.sentences_of s) (length text.old) }
-    ensures text_after { text.new ≡ Spec.text_after refusal (Spec.sentences_of s) text.old }
+// Writes the lines on all players of a situation that do not stand legally at the front of the lent text, in the order of the sheet, each with a line feed; the bytes after them are
+// kept. A refusal, of the text, keeps every byte.
+pub fn write_sentences(s: Situation, text: &mut [u8]) -> Result<usize, Refusal>
+    ensures value { result ≡ Spec.line_answer (Spec.sentences_of s) (length text.old) }
+    ensures text_after { text.new ≡ fronted_into (Spec.sentences_of s) text.old }
 {
-    if refusal != 0 {
-        return SheetAnswer::Refused(refusal);
-    }
     let home = side_conditions(s, Side::Home);
     let away = side_conditions(s, Side::Away);
     let mut lines = [0u8; ROOM];
     let middle = side_sentences(Side::Home, home, &mut lines, 0);
     let end = side_sentences(Side::Away, away, &mut lines, middle);
     if text.len() < end {
-        return SheetAnswer::Refused(8);
+        return Err(Refusal::TextRoom);
     }
     text[..end].copy_from_slice(&lines[..end]);
-    SheetAnswer::Written(end)
+    Ok(end)
 }

@@ -84,11 +84,11 @@ state = 18
 abbrev pub set_play : ℕ
 set_play = 19
 
--- the kicking side (MaybeSide)
+-- the kicking side (SideOrNone)
 abbrev pub kicking_side : ℕ
 kicking_side = 20
 
--- the goalkeepers of Home and of Away (MaybeNumber)
+-- the goalkeepers of Home and of Away (NumberOrNone)
 abbrev pub goalkeepers : ℕ
 goalkeepers = 21
 
@@ -116,7 +116,7 @@ previously_inside = 503
 abbrev pub ball : ℕ
 ball = 543
 
--- the side that touched the ball last (MaybeSide)
+-- the side that touched the ball last (SideOrNone)
 abbrev pub last_contact : ℕ
 last_contact = 546
 
@@ -136,7 +136,7 @@ restart_set_play = 549
 abbrev pub restart_side : ℕ
 restart_side = 550
 
--- the kicker of the Restart (MaybeNumber)
+-- the kicker of the Restart (NumberOrNone)
 abbrev pub restart_kicker : ℕ
 restart_kicker = 551
 

@@ -13,10 +13,8 @@ fn all_within(words: &[u32], greatest: &[u32], n: usize) -> bool
     ensures { result ≡ every_to n (Spec.in_column greatest.now words.now) }
 {
     let mut ok = true;
-    let mut i: usize = 0;
-    while i < n {
+    for i in 0..n {
         ok = ok & (words[i] <= greatest[i]);
-        i += 1;
     }
     ok
 }
@@ -29,12 +27,10 @@ fn front_to(words: &[u32], greatest: &[u32], n: usize) -> usize
     if all_within(words, greatest, n) {
         return n;
     }
-    let mut i: usize = 0;
-    while i < n {
+    for i in 0..n {
         if words[i] > greatest[i] {
             return i;
         }
-        i += 1;
     }
     n
 }

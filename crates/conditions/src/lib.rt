@@ -6,8 +6,9 @@ ghost use Rattle.conditions.specs.Conditions as Spec;
 
 use game::Positioning;
 
-// The condition that settled a verdict, in the order in which `is_illegally_positioned` has the tests.
-#[derive(Clone, Copy)]
+// The condition that settled a verdict, in the order in which `is_illegally_positioned` has the tests. NoCondition is a case, since a coach's line takes any of them: an Option
+// would stand about each test of the rules, and a type without it would ask more of callers.
+#[derive(Clone, Copy, PartialEq, Eq)]
 pub enum Condition {
     // The verdict is Legal.
     NoCondition,
@@ -31,11 +32,6 @@ pub enum Condition {
     NearBall,
     InGoalKickArea,
     InAreaOfBall,
-}
-
-#[derive(Clone, Copy)]
-pub struct PlayerCondition {
-    pub condition: Condition,
 }
 
 // The verdict that a condition settles.
@@ -66,46 +62,15 @@ pub fn verdict_of(condition: Condition) -> Positioning
 pub fn is_avoidance(condition: Condition) -> bool
     ensures { result ≡ Spec.is_avoidance condition }
 {
-    match condition {
-        Condition::NoCondition => false,
-        Condition::OnCenterMark => false,
-        Condition::OutsideCircle => false,
-        Condition::InCircle => false,
-        Condition::InOpponentHalf => false,
-        Condition::InCenterCircle => false,
-        Condition::OnPenaltyMark => false,
-        Condition::BeyondPenaltyMark => false,
-        Condition::InOpponentPenaltyArea => false,
-        Condition::NearPenaltyMark => false,
-        Condition::InOwnPenaltyArea => false,
-        Condition::BehindOwnMark => false,
-        Condition::NearOwnMark => false,
-        Condition::NearBall => true,
-        Condition::InGoalKickArea => true,
-        Condition::InAreaOfBall => true,
-    }
+    matches!(
+        condition,
+        Condition::NearBall | Condition::InGoalKickArea | Condition::InAreaOfBall
+    )
 }
 
 // Whether there is a condition, so that the verdict is other than Legal.
 pub fn is_some(condition: Condition) -> bool
     ensures { result ≡ Spec.is_some condition }
 {
-    match condition {
-        Condition::NoCondition => false,
-        Condition::OnCenterMark => true,
-        Condition::OutsideCircle => true,
-        Condition::InCircle => true,
-        Condition::InOpponentHalf => true,
-        Condition::InCenterCircle => true,
-        Condition::OnPenaltyMark => true,
-        Condition::BeyondPenaltyMark => true,
-        Condition::InOpponentPenaltyArea => true,
-        Condition::NearPenaltyMark => true,
-        Condition::InOwnPenaltyArea => true,
-        Condition::BehindOwnMark => true,
-        Condition::NearOwnMark => true,
-        Condition::NearBall => true,
-        Condition::InGoalKickArea => true,
-        Condition::InAreaOfBall => true,
-    }
+    condition != Condition::NoCondition
 }

@@ -1,8 +1,6 @@
 -- A half turn and a mirror image keep the number of players on the field. Assumes nothing.
 use mathlib.Core.Path.{◌≡◌, refl, ap, ◌∙◌}
 use mathlib.Core.Bool.{Bool, ◌&&◌}
-use Rattle.game.specs.declared.SeenPose.{SeenPose}
-use Rattle.game.specs.declared.SeenPose.TheVariants.{Absent, Present}
 use Rattle.game.specs.declared.Team.{Team}
 use Rattle.game.specs.Game.{is_unpenalized, is_present}
 use Rattle.game.specs.Players.{player_at}
@@ -10,11 +8,13 @@ use Rattle.geometry.specs.Turned.{changed_seen, changed_team}
 use Rattle.geometry.proofs.Turned.{player_at_changed}
 use Rattle.counts.specs.Counts.{is_on_field, players_on_field}
 use Rattle.lists.proofs.Counting.{count_same}
+use Rattle.std.specs.Prelude.{Option, None, Some}
+use Rattle.game.specs.declared.PlayerPose.{PlayerPose}
 
 -- they keep who is present
-present_changed : (a b : Bool) (p : SeenPose) → is_present (changed_seen a b p) ≡ is_present p
-present_changed a b Absent = refl
-present_changed a b (Present p) = refl
+present_changed : (a b : Bool) (p : Option PlayerPose) → is_present (changed_seen a b p) ≡ is_present p
+present_changed a b None = refl
+present_changed a b (Some p) = refl
 
 -- so they keep the number
 pub count_changed : (a b : Bool) (t : Team) → players_on_field (changed_team a b t) ≡ players_on_field t

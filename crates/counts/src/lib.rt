@@ -32,12 +32,10 @@ pub fn players_on_field(team: Team) -> usize
 {
     let players = team.players;
     let mut n: usize = 0;
-    let mut i: usize = 0;
-    while i < 20 {
+    for i in 0..20 {
         let player = players[i];
         let on_field = is_on_field(player);
         n = counted(on_field, n);
-        i += 1;
     }
     n
 }

@@ -9,8 +9,6 @@ use Rattle.floats.specs.Arithmetic.{zero32, one, four, sixty_four}
 use Rattle.game.specs.Players.{player_at, team_of, player_numbered}
 use Rattle.game.specs.declared.FieldDimensions.{FieldDimensions}
 use Rattle.game.specs.declared.PlayerPose.{PlayerPose}
-use Rattle.game.specs.declared.SeenPose.{SeenPose}
-use Rattle.game.specs.declared.SeenPose.TheVariants.{Absent, Present}
 use Rattle.game.specs.declared.Side.{Side}
 use Rattle.game.specs.declared.Side.TheVariants.{Home, Away}
 use Rattle.game.specs.declared.Situation.{Situation}
@@ -23,6 +21,7 @@ use Rattle.refusals.specs.Refusals.{is_coordinate, is_radius, is_player_number, 
 use Rattle.refusals.proofs.Accepted.{Ranges, accepted, field_ranges, numbered_fits, team_fits_holds, wished_fits}
 use Rattle.decision.specs.Fit.{Fit, PoseFit, SeenFit, SizesFit}
 use Rattle.decision.proofs.Accepted.{coordinate_within, ball_located, field_sized}
+use Rattle.std.specs.Prelude.{Option, None, Some}
 
 -- what the proof of the theorem uses
 pub record Parts (s : Situation) : Type 0 where
@@ -41,9 +40,9 @@ pub record InRange (s : Situation) : Type 0 where
 
 -- ---- a player by its number
 -- the y of a pose that fits
-seen_y : (p : SeenPose) → SeenFit p → FitsY p
-seen_y Absent h = tt
-seen_y (Present p) h = h.y
+seen_y : (p : Option PlayerPose) → SeenFit p → FitsY p
+seen_y None h = tt
+seen_y (Some p) h = h.y
 
 numbered_y : (t : Team) → ((i : ℕ) → SeenFit (player_at t i).pose) → (n : ℕ) → FitsY (player_numbered t n).pose
 numbered_y t h zero = tt
@@ -73,9 +72,9 @@ module _ (f : FieldDimensions) (r : Ranges f) (fit : SizesFit f) where
         y_no_nan = (coordinate_within p.y h.y two.1).number.no_nan;
       }
 
-  seen_sizes : (p : SeenPose) → SeenFit p → seen_fits p ≡ true → Sizes.Fit f p
-  seen_sizes Absent h e = tt
-  seen_sizes (Present p) h e = pose_sizes p h e
+  seen_sizes : (p : Option PlayerPose) → SeenFit p → seen_fits p ≡ true → Sizes.Fit f p
+  seen_sizes None h e = tt
+  seen_sizes (Some p) h e = pose_sizes p h e
 
   numbered_sizes : (t : Team) → ((i : ℕ) → SeenFit (player_at t i).pose) → (n : ℕ) → seen_fits (player_numbered t n).pose ≡ true → Sizes.Fit f (player_numbered t n).pose
   numbered_sizes t h zero e = tt

@@ -11,15 +11,9 @@ use Rattle.game.proofs.Listing.{numbers_same}
 use Rattle.game.specs.declared.Ball.{Ball}
 use Rattle.game.specs.declared.FieldDimensions.{FieldDimensions}
 use Rattle.game.specs.declared.Game.{Game}
-use Rattle.game.specs.declared.MaybeSide.{MaybeSide}
-use Rattle.game.specs.declared.MaybeSide.TheVariants.{NoSide, Of}
 use Rattle.game.specs.declared.Player.{Player}
 use Rattle.game.specs.declared.PlayerList.{PlayerList}
-use Rattle.game.specs.declared.PlayerMargins.{PlayerMargins}
-use Rattle.game.specs.declared.PlayerReference.{PlayerReference}
 use Rattle.game.specs.declared.Positioning.{Positioning}
-use Rattle.game.specs.declared.ReferencePose.{ReferencePose}
-use Rattle.game.specs.declared.ReferencePose.TheVariants.{NoReference, Reference}
 use Rattle.game.specs.declared.Side.{Side}
 use Rattle.game.specs.declared.Side.TheVariants.{Home, Away}
 use Rattle.game.specs.declared.SideDecision.{SideDecision}
@@ -36,6 +30,9 @@ use Rattle.motion.specs.Motion.{references_after}
 use Rattle.motion.proofs.Turned.{changed_element, moved_players_changed, references_changed}
 use Rattle.decision.specs.Decision.{verdict_at, team_verdicts, team_excess, is_excess_asked, empty_list, is_leaving, leaving_players, team_margins, side_margins, team_decision, side_decision, kicker_numbered, kicker_if_any, kicking_player}
 use Rattle.decision.specs.Changed.{changed, ChangedReference, ChangedReferences, ChangedSide}
+use Rattle.std.specs.Prelude.{Option, None, Some}
+use Rattle.game.specs.declared.Margins.{Margins}
+use Rattle.game.specs.declared.PlayerPose.{PlayerPose}
 
 module _ (a b : Bool) where
   -- the team of a side
@@ -53,18 +50,17 @@ module _ (a b : Bool) where
   side_margins_changed s side = ap (team_margins (changed_game a s.game) s.field side) (team_of_changed s side) ∙ team_margins_changed s.game s.field side (team_of s side)
 
   -- ---- verdicts
-  verdict_at_changed : (g : Game) (f : FieldDimensions) (o : Ball) (side : Side) (t : Team) (m : List PlayerMargins) (i : ℕ) → verdict_at (changed_game a g) f (changed_ball a b o) side (changed_team a b t) m i ≡ verdict_at g f o side t m i
+  verdict_at_changed : (g : Game) (f : FieldDimensions) (o : Ball) (side : Side) (t : Team) (m : List (Option Margins)) (i : ℕ) → verdict_at (changed_game a g) f (changed_ball a b o) side (changed_team a b t) m i ≡ verdict_at g f o side t m i
   verdict_at_changed g f o side t m i =
-      ap (λ (v : Positioning). record { verdict = v })
       (ap (λ (q : Player). is_illegally_positioned (changed_game a g) f (changed_ball a b o) side t.goalkeeper (number_at i) q (margins_at m i)) (player_at_changed a b t i)
       ∙ verdict_changed a b g f o side t.goalkeeper (number_at i) (player_at t i) (margins_at m i))
 
-  verdicts_changed : (g : Game) (f : FieldDimensions) (o : Ball) (side : Side) (t : Team) (m : List PlayerMargins) → team_verdicts (changed_game a g) f (changed_ball a b o) side (changed_team a b t) m ≡ team_verdicts g f o side t m
+  verdicts_changed : (g : Game) (f : FieldDimensions) (o : Ball) (side : Side) (t : Team) (m : List (Option Margins)) → team_verdicts (changed_game a g) f (changed_ball a b o) side (changed_team a b t) m ≡ team_verdicts g f o side t m
   unfolding team_verdicts
   verdicts_changed g f o side t m = table_same 20 (verdict_at (changed_game a g) f (changed_ball a b o) side (changed_team a b t) m) (verdict_at g f o side t m) (λ i h. verdict_at_changed g f o side t m i)
 
   -- ---- excess
-  team_excess_changed : (g : Game) (t : Team) (m : List PlayerMargins) → team_excess (changed_game a g) (changed_team a b t) m ≡ team_excess g t m
+  team_excess_changed : (g : Game) (t : Team) (m : List (Option Margins)) → team_excess (changed_game a g) (changed_team a b t) m ≡ team_excess g t m
   unfolding team_excess
   team_excess_changed g t m = ap (λ (l : PlayerList). cond (is_excess_asked g) l empty_list) (excess_changed a b t m (is_playing g.state))
 
@@ -76,16 +72,16 @@ module _ (a b : Bool) where
       (λ i h. ap (λ (q : Player). is_leaving q f) (player_at_changed a b t i) ∙ leaving_changed a b (player_at t i) f (player_at t i).allowance)
 
   -- ---- references
-  reference_same : (r : ReferencePose) → ChangedReference a b r (changed_reference a b r)
-  reference_same NoReference = tt
-  reference_same (Reference p) = (inl refl, inl refl, refl, refl)
+  reference_same : (r : Option PlayerPose) → ChangedReference a b r (changed_reference a b r)
+  reference_same None = tt
+  reference_same (Some p) = (inl refl, inl refl, refl, refl)
 
-  references_same : (l : List PlayerReference) → ChangedReferences a b l (map (changed_element a b) l)
+  references_same : (l : List (Option PlayerPose)) → ChangedReferences a b l (map (changed_element a b) l)
   references_same [] = tt
-  references_same (r ∷ l) = (reference_same r.reference, references_same l)
+  references_same (r ∷ l) = (reference_same r, references_same l)
 
   -- ---- a side
-  team_same : (g : Game) (f : FieldDimensions) (o : Ball) (side : Side) (t : Team) (m : List PlayerMargins) → ChangedSide a b (team_decision g f o side t m) (team_decision (changed_game a g) f (changed_ball a b o) side (changed_team a b t) m)
+  team_same : (g : Game) (f : FieldDimensions) (o : Ball) (side : Side) (t : Team) (m : List (Option Margins)) → ChangedSide a b (team_decision g f o side t m) (team_decision (changed_game a g) f (changed_ball a b o) side (changed_team a b t) m)
   unfolding team_decision
   team_same g f o side t m =
       record {
@@ -93,22 +89,22 @@ module _ (a b : Bool) where
         excess = team_excess_changed g t m;
         leaving = leaving_players_changed t f;
         moved = moved_players_changed a b t;
-        references = subst (λ (l : List PlayerReference). ChangedReferences a b (references_after t) l) (sym (references_changed a b t)) (references_same (references_after t));
+        references = subst (λ (l : List (Option PlayerPose)). ChangedReferences a b (references_after t) l) (sym (references_changed a b t)) (references_same (references_after t));
       }
 
   pub side_same : (s : Situation) (side : Side) → ChangedSide a b (side_decision s side) (side_decision (changed a b s) side)
   unfolding side_decision
   side_same s side =
       subst (λ (e : SideDecision). ChangedSide a b (team_decision s.game s.field s.ball side (team_of s side) (side_margins s side)) e)
-      (sym (ap₂ (λ (t : Team) (m : List PlayerMargins). team_decision (changed_game a s.game) s.field (changed_ball a b s.ball) side t m) (team_of_changed s side) (side_margins_changed s side)))
+      (sym (ap₂ (λ (t : Team) (m : List (Option Margins)). team_decision (changed_game a s.game) s.field (changed_ball a b s.ball) side t m) (team_of_changed s side) (side_margins_changed s side)))
       (team_same s.game s.field s.ball side (team_of s side) (side_margins s side))
 
   -- ---- the kicking player
-  pub kicking_changed : (g : Game) (home away : Team) (f : FieldDimensions) (m n : List PlayerMargins) → kicking_player (changed_game a g) (changed_team a b home) (changed_team a b away) f m n ≡ kicking_player g home away f m n
+  pub kicking_changed : (g : Game) (home away : Team) (f : FieldDimensions) (m n : List (Option Margins)) → kicking_player (changed_game a g) (changed_team a b home) (changed_team a b away) f m n ≡ kicking_player g home away f m n
   unfolding kicking_player
   kicking_changed g home away f m n = by_side g.kicking_side
     where
-      by_side : (k : MaybeSide) → kicker_if_any k (changed_game a g) (changed_team a b home) (changed_team a b away) f m n ≡ kicker_if_any k g home away f m n
-      by_side NoSide = cc (kicker_changed a b g home f m Home)  -- it would hold too if Home's kicker were told without a side; that nobody is told is the contract's
-      by_side (Of Home) = ap (kicker_numbered Home) (kicker_changed a b g home f m Home)
-      by_side (Of Away) = ap (kicker_numbered Away) (kicker_changed a b g away f n Away)
+      by_side : (k : Option Side) → kicker_if_any k (changed_game a g) (changed_team a b home) (changed_team a b away) f m n ≡ kicker_if_any k g home away f m n
+      by_side None = cc (kicker_changed a b g home f m Home)  -- it would hold too if Home's kicker were told without a side; that nobody is told is the contract's
+      by_side (Some Home) = ap (kicker_numbered Home) (kicker_changed a b g home f m Home)
+      by_side (Some Away) = ap (kicker_numbered Away) (kicker_changed a b g away f n Away)

@@ -14,12 +14,8 @@ use Rattle.game.specs.Game.{is_playing}
 use Rattle.game.specs.declared.Ball.{Ball}
 use Rattle.game.specs.declared.FieldDimensions.{FieldDimensions}
 use Rattle.game.specs.declared.Game.{Game}
-use Rattle.game.specs.declared.MaybeNumber.{MaybeNumber}
-use Rattle.game.specs.declared.MaybeSide.{MaybeSide}
-use Rattle.game.specs.declared.MaybeSide.TheVariants.{Of}
 use Rattle.game.specs.declared.Player.{Player}
 use Rattle.game.specs.declared.PlayerList.{PlayerList}
-use Rattle.game.specs.declared.PlayerMargins.{PlayerMargins}
 use Rattle.game.specs.declared.Side.{Side}
 use Rattle.game.specs.declared.Side.TheVariants.{Home, Away}
 use Rattle.game.specs.declared.Situation.{Situation}
@@ -29,7 +25,6 @@ use Rattle.game.specs.declared.Positioning.TheVariants.{Legal}
 use Rattle.game.specs.Players.{player_numbered}
 use Rattle.conditions.specs.Conditions.{verdict_of}
 use Rattle.conditions.specs.declared.Condition.TheVariants.{NoCondition}
-use Rattle.conditions.specs.declared.PlayerCondition.{PlayerCondition}
 use Rattle.positioning.specs.Positioning.{condition_at, team_conditions, is_judging, is_illegally_positioned}
 use Rattle.positioning.proofs.Judging.{none_judged}
 use Rattle.places.specs.Places.{penalty_shot_place, penalty_goalkeeper_place}
@@ -38,7 +33,6 @@ use Rattle.excess.specs.Excess.{goal_area_excess}
 use Rattle.kicker.specs.Kicker.{determine_kicking_player}
 use Rattle.motion.specs.Motion.{moved_players, references_after}
 use Rattle.game.specs.declared.BallJudgment.{BallJudgment}
-use Rattle.game.specs.declared.PlayerReference.{PlayerReference}
 use Rattle.game.specs.declared.Placement.{Placement}
 use Rattle.refusals.specs.Refusals.{refusal_of}
 use Rattle.decision.specs.Decision.{verdict_at, team_verdicts, is_excess_asked, empty_list, team_excess, leaving_players, kicker_numbered, kicker_if_any, kicking_player, ball_called_among, ball_called, wished_place, team_margins, team_decision, side_margins, side_decision, decision_of, empty_decision, answer_of}
@@ -47,27 +41,27 @@ use Rattle.game.specs.declared.Decision.{Decision}
 use Rattle.seen.specs.Seen.{side_seen}
 use Rattle.seen.specs.declared.Seen.{Seen}
 use Rattle.decision.specs.declared.call.Answer.{Answer}
-use Rattle.game.specs.declared.PlayerVerdict.{PlayerVerdict}
 use Rattle.game.specs.declared.KickingPlayer.{KickingPlayer}
+use Rattle.std.specs.Prelude.{Option, Some}
+use Rattle.game.specs.declared.Margins.{Margins}
+use Rattle.conditions.specs.declared.Condition.{Condition}
+use Rattle.game.specs.declared.PlayerPose.{PlayerPose}
 
 -- ---- a verdict
-pub verdict_told : (v w : Positioning) → v ≡ w → ◌≡◌ {A = PlayerVerdict} (record { verdict = v }) (record { verdict = w })
-verdict_told v w e = ap (λ (z : Positioning). record { verdict = z }) e
-
 -- that of the condition at a place
-abbrev pub verdict_by : List PlayerCondition → ℕ → PlayerVerdict
-verdict_by conditions k = record { verdict = verdict_of (get_or conditions k (record { condition = NoCondition })).condition }
+abbrev pub verdict_by : List Condition → ℕ → Positioning
+verdict_by conditions k = verdict_of (get_or conditions k NoCondition)
 
-pub verdicts_told : (g : Game) (f : FieldDimensions) (b : Ball) (side : Side) (t : Team) (margins : List PlayerMargins) (conditions : List PlayerCondition) (out : List PlayerVerdict) → conditions ≡ team_conditions g f b side t margins → out ≡ table 20 (verdict_by conditions)
+pub verdicts_told : (g : Game) (f : FieldDimensions) (b : Ball) (side : Side) (t : Team) (margins : List (Option Margins)) (conditions : List Condition) (out : List Positioning) → conditions ≡ team_conditions g f b side t margins → out ≡ table 20 (verdict_by conditions)
     → out ≡ team_verdicts g f b side t margins
 unfolding team_verdicts team_conditions is_illegally_positioned
 verdicts_told g f b side t margins conditions out e p =
     p
-    ∙ ap (λ (l : List PlayerCondition). table 20 (verdict_by l)) e
-    ∙ table_same 20 (verdict_by (team_conditions g f b side t margins)) (verdict_at g f b side t margins) (λ k h. ap (λ (c : PlayerCondition). record { verdict = verdict_of c.condition }) (table_at 20 (condition_at g f b side t margins) (record { condition = NoCondition }) k h))
+    ∙ ap (λ (l : List Condition). table 20 (verdict_by l)) e
+    ∙ table_same 20 (verdict_by (team_conditions g f b side t margins)) (verdict_at g f b side t margins) (λ k h. ap verdict_of (table_at 20 (condition_at g f b side t margins) NoCondition k h))
 
-pub verdicts_none : (g : Game) (f : FieldDimensions) (b : Ball) (side : Side) (t : Team) (margins : List PlayerMargins) → is_judging g ≡ false → replicate 20 (record { verdict = Legal }) ≡ team_verdicts g f b side t margins
-verdicts_none g f b side t margins e = verdicts_told g f b side t margins (replicate 20 (record { condition = NoCondition })) (replicate 20 (record { verdict = Legal })) (none_judged g f b side t margins e) refl
+pub verdicts_none : (g : Game) (f : FieldDimensions) (b : Ball) (side : Side) (t : Team) (margins : List (Option Margins)) → is_judging g ≡ false → replicate 20 Legal ≡ team_verdicts g f b side t margins
+verdicts_none g f b side t margins e = verdicts_told g f b side t margins (replicate 20 NoCondition) (replicate 20 Legal) (none_judged g f b side t margins e) refl
 
 -- ---- what is seen of a side
 module _ (g : Game) (f : FieldDimensions) (side : Side) (t : Team) (seen : Seen) (known : seen ≡ side_seen g f side t) where
@@ -80,7 +74,7 @@ module _ (g : Game) (f : FieldDimensions) (side : Side) (t : Team) (seen : Seen)
   seen_count = ap (λ (z : Seen). z.on_field) known
 
 -- ---- an excess list, asked or not
-module _ (g : Game) (t : Team) (margins : List PlayerMargins) where
+module _ (g : Game) (t : Team) (margins : List (Option Margins)) where
   excess_if : Bool → PlayerList
   excess_if b = cond b (goal_area_excess t margins (is_playing g.state)) empty_list
 
@@ -98,20 +92,20 @@ pub by_way {ℓ ℓ' ℓ''} : {A : Type ℓ} {B : Type ℓ'} {C : Type ℓ''} �
 by_way (inl x) f g = f x
 by_way (inr y) f g = g y
 
-module _ (g : Game) (home away : Team) (f : FieldDimensions) (hm am : List PlayerMargins) where
+module _ (g : Game) (home away : Team) (f : FieldDimensions) (hm am : List (Option Margins)) where
   -- the number of the kicking player of one side
-  abbrev number_of : Side → MaybeNumber
+  abbrev number_of : Side → Option ℕ
   number_of Home = determine_kicking_player g home f hm Home
   number_of Away = determine_kicking_player g away f am Away
 
-  of_side : (side : Side) → kicker_numbered side (number_of side) ≡ kicker_if_any (Of side) g home away f hm am
+  of_side : (side : Side) → kicker_numbered side (number_of side) ≡ kicker_if_any (Some side) g home away f hm am
   of_side Home = refl
   of_side Away = refl
 
-  pub kicker_told : (side other : Side) (number found : MaybeNumber) (k : KickingPlayer) → g.kicking_side ≡ Of other → k ≡ kicker_numbered other number → other ≡ side → number ≡ found → found ≡ number_of side → k ≡ kicking_player g home away f hm am
+  pub kicker_told : (side other : Side) (number found : Option ℕ) (k : Option KickingPlayer) → g.kicking_side ≡ Some other → k ≡ kicker_numbered other number → other ≡ side → number ≡ found → found ≡ number_of side → k ≡ kicking_player g home away f hm am
   unfolding kicking_player
   kicker_told side other number found k e ek es en ef =
-      ek ∙ ap₂ kicker_numbered es (en ∙ ef) ∙ of_side side ∙ ap (λ (m : MaybeSide). kicker_if_any m g home away f hm am) (sym (e ∙ ap Of es))
+      ek ∙ ap₂ kicker_numbered es (en ∙ ef) ∙ of_side side ∙ ap (λ (m : Option Side). kicker_if_any m g home away f hm am) (sym (e ∙ ap Some es))
 
 -- ---- a player's place in a penalty shot, and a goalkeeper's
 module _ (g : Game) (f : FieldDimensions) (side : Side) (team t : Team) where
@@ -122,15 +116,15 @@ module _ (g : Game) (f : FieldDimensions) (side : Side) (team t : Team) where
   keeper_told r et er = er ∙ ap (penalty_goalkeeper_place g f side) et
 
 -- ---- the items of a side
-module _ (g : Game) (f : FieldDimensions) (b : Ball) (side : Side) (t : Team) (margins : List PlayerMargins) where
-  items : List PlayerVerdict → PlayerList → PlayerList → PlayerList → List PlayerReference → SideDecision
+module _ (g : Game) (f : FieldDimensions) (b : Ball) (side : Side) (t : Team) (margins : List (Option Margins)) where
+  items : List Positioning → PlayerList → PlayerList → PlayerList → List (Option PlayerPose) → SideDecision
   items v e l m r = record { verdicts = v; excess = e; leaving = l; moved = m; references = r }
 
-  pub side_told : (v : List PlayerVerdict) (e l m : PlayerList) (r : List PlayerReference) → v ≡ team_verdicts g f b side t margins → e ≡ team_excess g t margins → l ≡ leaving_players t f → m ≡ moved_players t → r ≡ references_after t
+  pub side_told : (v : List Positioning) (e l m : PlayerList) (r : List (Option PlayerPose)) → v ≡ team_verdicts g f b side t margins → e ≡ team_excess g t margins → l ≡ leaving_players t f → m ≡ moved_players t → r ≡ references_after t
       → record { verdicts = v; excess = e; leaving = l; moved = m; references = r } ≡ team_decision g f b side t margins
   unfolding items team_decision
   side_told v e l m r ev ee el em er =
-      ap (λ (z : List PlayerVerdict). items z e l m r) ev
+      ap (λ (z : List Positioning). items z e l m r) ev
       ∙ ap (λ (z : PlayerList). items (team_verdicts g f b side t margins) z l m r) ee
       ∙ ap (λ (z : PlayerList). items (team_verdicts g f b side t margins) (team_excess g t margins) z m r) el
       ∙ ap (λ (z : PlayerList). items (team_verdicts g f b side t margins) (team_excess g t margins) (leaving_players t f) z r) em
@@ -138,20 +132,20 @@ module _ (g : Game) (f : FieldDimensions) (b : Ball) (side : Side) (t : Team) (m
 
 -- ---- the decision
 module _ (s : Situation) (xs ys : List Float) where
-  whole : SideDecision → SideDecision → KickingPlayer → BallJudgment → Placement → Decision
+  whole : SideDecision → SideDecision → Option KickingPlayer → BallJudgment → Placement → Decision
   whole h a k b p = record { home = h; away = a; kicker = k; ball = b; place = p }
 
-  kicks : List PlayerMargins → List PlayerMargins → KickingPlayer
+  kicks : List (Option Margins) → List (Option Margins) → Option KickingPlayer
   kicks hm am = kicking_player s.game s.home s.away s.field hm am
 
-  pub decision_told : (hm am : List PlayerMargins) (hn an : ℕ) (h a : SideDecision) (k : KickingPlayer) (b : BallJudgment) (p : Placement) → hm ≡ team_margins s.game s.field Home s.home → am ≡ team_margins s.game s.field Away s.away → hn ≡ players_on_field s.home → an ≡ players_on_field s.away
+  pub decision_told : (hm am : List (Option Margins)) (hn an : ℕ) (h a : SideDecision) (k : Option KickingPlayer) (b : BallJudgment) (p : Placement) → hm ≡ team_margins s.game s.field Home s.home → am ≡ team_margins s.game s.field Away s.away → hn ≡ players_on_field s.home → an ≡ players_on_field s.away
       → h ≡ team_decision s.game s.field s.ball Home s.home hm → a ≡ team_decision s.game s.field s.ball Away s.away am → k ≡ kicking_player s.game s.home s.away s.field hm am → b ≡ ball_called_among s hn an → p ≡ wished_place s xs ys
       → record { home = h; away = a; kicker = k; ball = b; place = p } ≡ decision_of s xs ys
   unfolding whole kicks side_margins side_decision ball_called decision_of
   decision_told hm am hn an h a k b p ehm eam ehn ean eh ea ek eb ep =
       ap (λ (z : SideDecision). whole z a k b p) (eh ∙ ap (team_decision s.game s.field s.ball Home s.home) ehm)
       ∙ ap (λ (z : SideDecision). whole (side_decision s Home) z k b p) (ea ∙ ap (team_decision s.game s.field s.ball Away s.away) eam)
-      ∙ ap (λ (z : KickingPlayer). whole (side_decision s Home) (side_decision s Away) z b p) (ek ∙ ap (λ (z : List PlayerMargins). kicks z am) ehm ∙ ap (kicks (side_margins s Home)) eam)
+      ∙ ap (λ (z : Option KickingPlayer). whole (side_decision s Home) (side_decision s Away) z b p) (ek ∙ ap (λ (z : List (Option Margins)). kicks z am) ehm ∙ ap (kicks (side_margins s Home)) eam)
       ∙ ap (λ (z : BallJudgment). whole (side_decision s Home) (side_decision s Away) (kicks (side_margins s Home) (side_margins s Away)) z p) (eb ∙ ap (λ (n : ℕ). ball_called_among s n an) ehn ∙ ap (ball_called_among s (players_on_field s.home)) ean)
       ∙ ap (whole (side_decision s Home) (side_decision s Away) (kicks (side_margins s Home) (side_margins s Away)) (ball_called s)) ep
 

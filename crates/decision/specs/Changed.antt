@@ -1,11 +1,8 @@
 -- A situation with the signs of x, of y or of both changed, what makes the two decisions equal, the exception, and the claims.
 -- x changes its sign where a is true, and y where b is: the half turn changes both, a mirror image in y the second. Definitions only.
-use Rattle.std.specs.Prelude.{◌≡◌, Bool, true, false, ◌&&◌, List, [], ◌∷◌, map, Float}
+use Rattle.std.specs.Prelude.{◌≡◌, Bool, true, false, ◌&&◌, List, [], ◌∷◌, map, Float, Option, None, Some}
 use Rattle.floats.specs.Values.{Alike}
 use Rattle.game.specs.declared.Decision.{Decision}
-use Rattle.game.specs.declared.PlayerReference.{PlayerReference}
-use Rattle.game.specs.declared.ReferencePose.{ReferencePose}
-use Rattle.game.specs.declared.ReferencePose.TheVariants.{NoReference, Reference}
 use Rattle.game.specs.declared.SideDecision.{SideDecision}
 use Rattle.game.specs.declared.Situation.{Situation}
 use Rattle.game.specs.declared.Wish.{Wish}
@@ -16,6 +13,7 @@ use Rattle.ball.specs.Turned.{is_excepted}
 use Rattle.refusals.specs.Refusals.{refusal_of}
 use Rattle.decision.specs.Decision.{decision_of}
 use Rattle.decision.specs.Fit.{Fit}
+use Rattle.game.specs.declared.PlayerPose.{PlayerPose}
 
 -- x and y of poses, reference poses and ball change, sign bits of zeros too; where x does, the ends are exchanged; the rest is kept
 abbrev pub changed : Bool → Bool → Situation → Situation
@@ -40,18 +38,18 @@ changed_places a l = map (signed a) l
 
 -- ---- what makes two decisions equal
 -- a reference pose, its x and y changed, zeros of both signs alike
-abbrev pub ChangedReference : Bool → Bool → ReferencePose → ReferencePose → Type 0
-ChangedReference a b NoReference NoReference = Unit {0}
-ChangedReference a b NoReference (Reference q) = ⊥
-ChangedReference a b (Reference p) NoReference = ⊥
-ChangedReference a b (Reference p) (Reference q) = Alike q.x (signed a p.x) × Alike q.y (signed b p.y) × (q.theta ≡ p.theta) × (q.radius ≡ p.radius)
+abbrev pub ChangedReference : Bool → Bool → Option PlayerPose → Option PlayerPose → Type 0
+ChangedReference a b None None = Unit {0}
+ChangedReference a b None (Some q) = ⊥
+ChangedReference a b (Some p) None = ⊥
+ChangedReference a b (Some p) (Some q) = Alike q.x (signed a p.x) × Alike q.y (signed b p.y) × (q.theta ≡ p.theta) × (q.radius ≡ p.radius)
 
 -- reference poses in their order
-abbrev pub ChangedReferences : Bool → Bool → List PlayerReference → List PlayerReference → Type 0
+abbrev pub ChangedReferences : Bool → Bool → List (Option PlayerPose) → List (Option PlayerPose) → Type 0
 ChangedReferences a b [] [] = Unit {0}
 ChangedReferences a b [] (q ∷ qs) = ⊥
 ChangedReferences a b (p ∷ ps) [] = ⊥
-ChangedReferences a b (p ∷ ps) (q ∷ qs) = ChangedReference a b p.reference q.reference × ChangedReferences a b ps qs
+ChangedReferences a b (p ∷ ps) (q ∷ qs) = ChangedReference a b p q × ChangedReferences a b ps qs
 
 -- every item of a side, in the same order
 pub record ChangedSide (a b : Bool) (d e : SideDecision) : Type 0 where

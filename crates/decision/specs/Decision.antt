@@ -1,20 +1,14 @@
 -- The items of a decision, as document 01 names them: each player's verdict; each side's excess list; the kicking player; the lists of players leaving
 -- and moved; the reference poses after motion; the ball judgment; the place wished for. Definitions only.
-use Rattle.std.specs.Prelude.{Bool, not, cond, ◌&&◌, ◌||◌, List, [], ℕ, eqb, replicate, Float}
+use Rattle.std.specs.Prelude.{Bool, not, cond, ◌&&◌, ◌||◌, List, [], ℕ, eqb, replicate, Float, Option, None, Some}
 use Rattle.lists.specs.Table.{table}
 use Rattle.game.specs.Game.{is_shootout, is_set, is_playing}
 use Rattle.game.specs.Players.{player_at, player_numbered, margins_at, team_of, listed, number_at, numbers_where}
 use Rattle.game.specs.declared.Ball.{Ball}
 use Rattle.game.specs.declared.FieldDimensions.{FieldDimensions}
 use Rattle.game.specs.declared.Game.{Game}
-use Rattle.game.specs.declared.MaybeNumber.{MaybeNumber}
-use Rattle.game.specs.declared.MaybeNumber.TheVariants.{NoNumber, Number}
 use Rattle.game.specs.declared.Player.{Player}
-use Rattle.game.specs.declared.MaybeSide.{MaybeSide}
-use Rattle.game.specs.declared.MaybeSide.TheVariants.{NoSide, Of}
 use Rattle.game.specs.declared.PlayerList.{PlayerList}
-use Rattle.game.specs.declared.PlayerMargins.{PlayerMargins}
-use Rattle.game.specs.declared.ReferencePose.TheVariants.{NoReference}
 use Rattle.game.specs.declared.Side.{Side}
 use Rattle.game.specs.declared.Side.TheVariants.{Home, Away}
 use Rattle.game.specs.declared.Situation.{Situation}
@@ -36,20 +30,20 @@ use Rattle.game.specs.declared.Placement.{Placement}
 use Rattle.game.specs.declared.Placement.TheVariants.{NoPlace}
 use Rattle.penalty.specs.Penalty.{place_for_penalty}
 use Rattle.refusals.specs.Refusals.{refusal_of}
-use Rattle.game.specs.declared.PlayerVerdict.{PlayerVerdict}
 use Rattle.game.specs.declared.KickingPlayer.{KickingPlayer}
-use Rattle.game.specs.declared.KickingPlayer.TheVariants.{NoKicker, Kicker}
 use Rattle.game.specs.declared.SideDecision.{SideDecision}
 use Rattle.game.specs.declared.Decision.{Decision}
 use Rattle.decision.specs.declared.call.Answer.{Answer}
+use Rattle.game.specs.declared.Margins.{Margins}
+use Rattle.game.specs.declared.Positioning.{Positioning}
 
 -- ---- each player's verdict, Legal too
 -- the verdict on the player at the place i, whose number is i + 1
-abbrev pub verdict_at : Game → FieldDimensions → Ball → Side → Team → List PlayerMargins → ℕ → PlayerVerdict
-verdict_at g f b side t margins i = record { verdict = is_illegally_positioned g f b side t.goalkeeper (number_at i) (player_at t i) (margins_at margins i) }
+abbrev pub verdict_at : Game → FieldDimensions → Ball → Side → Team → List (Option Margins) → ℕ → Positioning
+verdict_at g f b side t margins i = is_illegally_positioned g f b side t.goalkeeper (number_at i) (player_at t i) (margins_at margins i)
 
 -- the verdicts on a side's players by their places
-unfoldable pub team_verdicts : Game → FieldDimensions → Ball → Side → Team → List PlayerMargins → List PlayerVerdict
+unfoldable pub team_verdicts : Game → FieldDimensions → Ball → Side → Team → List (Option Margins) → List Positioning
 team_verdicts g f b side t margins = table 20 (verdict_at g f b side t margins)
 
 -- ---- a side's excess list, empty where it is not asked
@@ -62,27 +56,27 @@ unfoldable pub empty_list : PlayerList
 empty_list = listed []
 
 -- newcomers come first in Playing only
-unfoldable pub team_excess : Game → Team → List PlayerMargins → PlayerList
+unfoldable pub team_excess : Game → Team → List (Option Margins) → PlayerList
 team_excess g t margins = cond (is_excess_asked g) (goal_area_excess t margins (is_playing g.state)) empty_list
 
 -- ---- the kicking player or none
 -- the player of a side with this number, where there is one
-abbrev pub kicker_numbered : Side → MaybeNumber → KickingPlayer
-kicker_numbered side NoNumber = NoKicker
-kicker_numbered side (Number n) = Kicker side n
+abbrev pub kicker_numbered : Side → Option ℕ → Option KickingPlayer
+kicker_numbered side None = None
+kicker_numbered side (Some n) = Some (record { side = side; number = n })
 
 -- by the side that kicks
-abbrev pub kicker_of : Side → Game → Team → Team → FieldDimensions → List PlayerMargins → List PlayerMargins → KickingPlayer
+abbrev pub kicker_of : Side → Game → Team → Team → FieldDimensions → List (Option Margins) → List (Option Margins) → Option KickingPlayer
 kicker_of Home g home away f homeMargins awayMargins = kicker_numbered Home (determine_kicking_player g home f homeMargins Home)
 kicker_of Away g home away f homeMargins awayMargins = kicker_numbered Away (determine_kicking_player g away f awayMargins Away)
 
 -- none without a kicking side
-abbrev pub kicker_if_any : MaybeSide → Game → Team → Team → FieldDimensions → List PlayerMargins → List PlayerMargins → KickingPlayer
-kicker_if_any NoSide g home away f homeMargins awayMargins = NoKicker
-kicker_if_any (Of side) g home away f homeMargins awayMargins = kicker_of side g home away f homeMargins awayMargins
+abbrev pub kicker_if_any : Option Side → Game → Team → Team → FieldDimensions → List (Option Margins) → List (Option Margins) → Option KickingPlayer
+kicker_if_any None g home away f homeMargins awayMargins = None
+kicker_if_any (Some side) g home away f homeMargins awayMargins = kicker_of side g home away f homeMargins awayMargins
 
 -- the kicking player, given both teams with their margins
-unfoldable pub kicking_player : Game → Team → Team → FieldDimensions → List PlayerMargins → List PlayerMargins → KickingPlayer
+unfoldable pub kicking_player : Game → Team → Team → FieldDimensions → List (Option Margins) → List (Option Margins) → Option KickingPlayer
 kicking_player g home away f homeMargins awayMargins = kicker_if_any g.kicking_side g home away f homeMargins awayMargins
 
 -- ---- the players leaving the field
@@ -127,11 +121,11 @@ wished_place s xs ys = place_for s.wish s xs ys
 
 -- ---- the decision
 -- the margins of a side's players
-unfoldable pub team_margins : Game → FieldDimensions → Side → Team → List PlayerMargins
+unfoldable pub team_margins : Game → FieldDimensions → Side → Team → List (Option Margins)
 team_margins g f side t = compute_margins t f (side_to_sign side g.sides)
 
 -- the items of one side, by its margins
-unfoldable pub team_decision : Game → FieldDimensions → Ball → Side → Team → List PlayerMargins → SideDecision
+unfoldable pub team_decision : Game → FieldDimensions → Ball → Side → Team → List (Option Margins) → SideDecision
 team_decision g f b side t margins =
     record {
       verdicts = team_verdicts g f b side t margins;
@@ -142,7 +136,7 @@ team_decision g f b side t margins =
     }
 
 -- the margins of a side's players in a situation
-unfoldable pub side_margins : Situation → Side → List PlayerMargins
+unfoldable pub side_margins : Situation → Side → List (Option Margins)
 side_margins s side = team_margins s.game s.field side (team_of s side)
 
 -- the items of one side
@@ -164,16 +158,16 @@ decision_of s xs ys =
 unfoldable pub empty_side : SideDecision
 empty_side =
     record {
-      verdicts = replicate 20 (record { verdict = Legal });
+      verdicts = replicate 20 Legal;
       excess = empty_list;
       leaving = empty_list;
       moved = empty_list;
-      references = replicate 20 (record { reference = NoReference });
+      references = replicate 20 None;
     }
 
 -- the decision beside a refusal
 unfoldable pub empty_decision : Decision
-empty_decision = record { home = empty_side; away = empty_side; kicker = NoKicker; ball = NoJudgment; place = NoPlace }
+empty_decision = record { home = empty_side; away = empty_side; kicker = None; ball = NoJudgment; place = NoPlace }
 
 -- a refusal gives its number only
 unfoldable pub answer_of : Situation → List Float → List Float → Answer

@@ -1,13 +1,11 @@
 -- What the theorem of the change of signs asks of a situation's floats: those that its proof looks at fit binary32, as every f32 of the language does. Definitions only.
-use Rattle.std.specs.Prelude.{ℕ, T}
+use Rattle.std.specs.Prelude.{ℕ, T, Option, None, Some}
 use Rattle.std.specs.Float.{binary32}
 use Rattle.std.specs.Float.Ieee.{fits}
 use Rattle.game.specs.Players.{player_at}
 use Rattle.game.specs.declared.Ball.{Ball}
 use Rattle.game.specs.declared.FieldDimensions.{FieldDimensions}
 use Rattle.game.specs.declared.PlayerPose.{PlayerPose}
-use Rattle.game.specs.declared.SeenPose.{SeenPose}
-use Rattle.game.specs.declared.SeenPose.TheVariants.{Absent, Present}
 use Rattle.game.specs.declared.Situation.{Situation}
 
 -- y and radius of a pose
@@ -16,9 +14,9 @@ pub record PoseFit (p : PlayerPose) : Type 0 where
   pub radius : T (fits binary32 p.radius)
 
 -- of a pose, where there is one
-abbrev pub SeenFit : SeenPose → Type 0
-SeenFit Absent = Unit {0}
-SeenFit (Present p) = PoseFit p
+abbrev pub SeenFit : Option PlayerPose → Type 0
+SeenFit None = Unit {0}
+SeenFit (Some p) = PoseFit p
 
 -- four of the field's sizes
 pub record SizesFit (f : FieldDimensions) : Type 0 where

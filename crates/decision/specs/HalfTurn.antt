@@ -1,9 +1,8 @@
 -- The situation turned half round, what makes two decisions equal, the exception, and the claim, in document 01's words. The half turn changes both signs. Definitions only.
-use Rattle.std.specs.Prelude.{◌≡◌, Bool, true, List, map, Float}
+use Rattle.std.specs.Prelude.{◌≡◌, Bool, true, List, map, Float, Option}
 use Rattle.std.specs.Float.Ieee.{neg}
 use Rattle.game.specs.declared.Decision.{Decision}
 use Rattle.game.specs.declared.Placement.{Placement}
-use Rattle.game.specs.declared.ReferencePose.{ReferencePose}
 use Rattle.game.specs.declared.SideDecision.{SideDecision}
 use Rattle.game.specs.declared.Situation.{Situation}
 use Rattle.game.specs.declared.Wish.{Wish}
@@ -13,6 +12,7 @@ use Rattle.refusals.specs.Refusals.{refusal_of}
 use Rattle.decision.specs.Decision.{decision_of}
 use Rattle.decision.specs.Fit.{Fit}
 use Rattle.decision.specs.Changed.{changed, ChangedReference, ChangedSide, ChangedDecision}
+use Rattle.game.specs.declared.PlayerPose.{PlayerPose}
 
 -- x and y of poses, reference poses and ball negated, sign bits of zeros too; ends exchanged; the rest kept
 abbrev pub turned : Situation → Situation
@@ -24,7 +24,7 @@ turned_places l = map neg l
 
 -- ---- what makes two decisions equal
 -- a reference pose, its x and y negated, zeros of both signs alike
-abbrev pub SameReference : ReferencePose → ReferencePose → Type 0
+abbrev pub SameReference : Option PlayerPose → Option PlayerPose → Type 0
 SameReference = ChangedReference true true
 
 -- every item of a side, in the same order: verdicts, excess, leaving and moved as they are, reference poses by `SameReference`

@@ -1,7 +1,5 @@
 -- No decision reads the kick place of the Restart record. Definitions only.
-use Rattle.std.specs.Prelude.{◌≡◌, List, Float}
-use Rattle.game.specs.declared.MaybeRestart.{MaybeRestart}
-use Rattle.game.specs.declared.MaybeRestart.TheVariants.{NoRestart, InEffect}
+use Rattle.std.specs.Prelude.{◌≡◌, List, Float, Option, None, Some}
 use Rattle.game.specs.declared.Restart.{Restart}
 use Rattle.game.specs.declared.Situation.{Situation}
 use Rattle.decision.specs.Decision.{decision_of}
@@ -23,9 +21,9 @@ kicked_at x y r =
     }
 
 -- where there is a record
-abbrev pub restart_kicked_at : Float → Float → MaybeRestart → MaybeRestart
-restart_kicked_at x y NoRestart = NoRestart
-restart_kicked_at x y (InEffect r) = InEffect (kicked_at x y r)
+abbrev pub restart_kicked_at : Float → Float → Option Restart → Option Restart
+restart_kicked_at x y None = None
+restart_kicked_at x y (Some r) = Some (kicked_at x y r)
 
 -- the situation with it
 abbrev pub with_kick_at : Float → Float → Situation → Situation

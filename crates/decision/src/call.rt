@@ -3,9 +3,8 @@ ghost use Rattle.std.specs.Prelude.{◌≡◌};
 ghost use Rattle.decision.specs.Decision as Spec;
 
 use game::{
-    Ball, BallJudgment, Decision, FieldDimensions, Game, KickingPlayer, Placement, PlayerMargins,
-    PlayerReference, PlayerVerdict, Positioning, ReferencePose, Side, SideDecision, Situation,
-    Team,
+    Ball, BallJudgment, Decision, FieldDimensions, Game, KickingPlayer, Margins, Placement,
+    Positioning, Side, SideDecision, Situation, Team,
 };
 
 // The number of the refusal, or 0 beside the decision; a refusal gives the empty one.
@@ -22,7 +21,7 @@ fn team_decision(
     ball: Ball,
     side: Side,
     team: Team,
-    margins: [PlayerMargins; 20],
+    margins: [Option<Margins>; 20],
 ) -> SideDecision
     ensures { result ≡ Spec.team_decision game field ball side team margins }
 {
@@ -80,29 +79,20 @@ pub fn decision_of<'a>(s: Situation, xs: &'a [f32], ys: &'a [f32]) -> Decision
 pub fn empty_decision() -> Decision
     ensures { result ≡ Spec.empty_decision }
 {
-    let legal = Positioning::Legal;
-    let verdict = PlayerVerdict { verdict: legal };
-    let verdicts = [verdict; 20];
-    let none = ReferencePose::NoReference;
-    let reference = PlayerReference { reference: none };
-    let references = [reference; 20];
     let nobody = super::judges::empty_list();
     let side = SideDecision {
-        verdicts,
+        verdicts: [Positioning::Legal; 20],
         excess: nobody,
         leaving: nobody,
         moved: nobody,
-        references,
+        references: [None; 20],
     };
-    let kicker = KickingPlayer::NoKicker;
-    let ball = BallJudgment::NoJudgment;
-    let place = Placement::NoPlace;
     Decision {
         home: side,
         away: side,
-        kicker,
-        ball,
-        place,
+        kicker: None,
+        ball: BallJudgment::NoJudgment,
+        place: Placement::NoPlace,
     }
 }
 
@@ -110,7 +100,7 @@ pub fn empty_decision() -> Decision
 pub fn decide<'a>(s: Situation, xs: &'a [f32], ys: &'a [f32]) -> Answer
     ensures { result ≡ Spec.answer_of s xs.now ys.now }
 {
-    let refusal = refusals::refusal(s, xs, ys);
+    let refusal = refusal::number_in(refusals::refusal(s, xs, ys));
     let accepted = refusal == 0;
     if accepted {
         let decision = decision_of(s, xs, ys);

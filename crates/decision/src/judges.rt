@@ -3,8 +3,8 @@ ghost use Rattle.std.specs.Prelude.{◌≡◌};
 ghost use Rattle.decision.specs.Decision as Spec;
 
 use game::{
-    Ball, BallJudgment, FieldDimensions, Game, KickingPlayer, MaybeNumber, MaybeSide, Placement,
-    PlayerList, PlayerMargins, PlayerVerdict, Positioning, Side, Situation, Team, Wish,
+    Ball, BallJudgment, FieldDimensions, Game, KickingPlayer, Margins, Placement, PlayerList,
+    Positioning, Side, Situation, Team, Wish,
 };
 
 // The verdicts on a side's players by their places, Legal too. Most of a game has no set play, and then no player is looked at.
@@ -14,25 +14,18 @@ pub fn team_verdicts(
     ball: Ball,
     side: Side,
     team: Team,
-    margins: [PlayerMargins; 20],
-) -> [PlayerVerdict; 20]
+    margins: [Option<Margins>; 20],
+) -> [Positioning; 20]
     ensures { result ≡ Spec.team_verdicts game field ball side team margins }
 {
-    let legal = Positioning::Legal;
-    let blank = PlayerVerdict { verdict: legal };
-    let mut out = [blank; 20];
+    let mut out = [Positioning::Legal; 20];
     let unjudged = !positioning::is_judging(game);
     if unjudged {
         return out;
     }
     let conditions = positioning::team_conditions(game, field, ball, side, team, margins);
-    let mut i: usize = 0;
-    while i < 20 {
-        let slot = conditions[i];
-        let condition = slot.condition;
-        let verdict = conditions::verdict_of(condition);
-        out[i] = PlayerVerdict { verdict };
-        i += 1;
+    for i in 0..20 {
+        out[i] = conditions::verdict_of(conditions[i]);
     }
     out
 }
@@ -44,11 +37,9 @@ pub fn leaving_players(team: Team, field: FieldDimensions) -> PlayerList
 {
     let players = team.players;
     let mut flags = [false; 20];
-    let mut i: usize = 0;
-    while i < 20 {
+    for i in 0..20 {
         let player = players[i];
         flags[i] = geometry::is_leaving_the_field(player, field, player.allowance);
-        i += 1;
     }
     game::numbers_where(flags)
 }
@@ -64,7 +55,7 @@ pub fn empty_list() -> PlayerList
 
 // The players that are too many in their own goal area, none where it is not asked: outside the shoot-out, in Set or Playing.
 // Newcomers come first in Playing only.
-pub fn team_excess(game: Game, team: Team, margins: [PlayerMargins; 20]) -> PlayerList
+pub fn team_excess(game: Game, team: Team, margins: [Option<Margins>; 20]) -> PlayerList
     ensures { result ≡ Spec.team_excess game team margins }
 {
     let phase = game.phase;
@@ -86,15 +77,12 @@ pub fn kicking_player(
     home: Team,
     away: Team,
     field: FieldDimensions,
-    home_margins: [PlayerMargins; 20],
-    away_margins: [PlayerMargins; 20],
-) -> KickingPlayer
+    home_margins: [Option<Margins>; 20],
+    away_margins: [Option<Margins>; 20],
+) -> Option<KickingPlayer>
     ensures { result ≡ Spec.kicking_player game home away field home_margins away_margins }
 {
-    let kicking = game.kicking_side;
-    let MaybeSide::Of(side) = kicking else {
-        return KickingPlayer::NoKicker;
-    };
+    let side = game.kicking_side?;
     let number = match side {
         Side::Home => {
             kicker::determine_kicking_player(game, home, field, home_margins, Side::Home)
@@ -103,10 +91,10 @@ pub fn kicking_player(
             kicker::determine_kicking_player(game, away, field, away_margins, Side::Away)
         }
     };
-    match number {
-        MaybeNumber::NoNumber => KickingPlayer::NoKicker,
-        MaybeNumber::Number(n) => KickingPlayer::Kicker(side, n),
-    }
+    Some(KickingPlayer {
+        side,
+        number: number?,
+    })
 }
 
 // What is called for the ball, where so many players of Home and of Away are on the field.

@@ -5,12 +5,13 @@ use mathlib.Core.List.{List, [], ◌∷◌, ◌++◌, map, append_assoc, append-
 use Prim.Native.Nat.{ℕ, zero, suc, ◌+◌, ◌-◌, ◌*◌, ◌≤◌, ◌<◌}
 use native.Mathlib.Nat.{not-suc-le-zero, le_of_suc-le-suc}
 use native.Mathlib.Omega.{arith}
-use borrow.Author.Tests.{eqb-true, eqb-false, eq-eqb, ne_eqb, le-ltb}
-use lib.Dec.{eqb, ltb}
+use borrow.Author.Tests.{eq-eqb, ne_eqb, le-ltb}
+use lib.Dec.{ltb}
 use lib.ListN.{length, take, drop, length-append, length-drop}
 use lib.Seq.{length-take-le}
+use Rattle.std.specs.Prelude.{Ok, Err}
 use Rattle.lists.specs.Put.{fronted, fronted_into}
-use Rattle.lists.proofs.Bools.{both_true, by_test}
+use Rattle.lists.proofs.Bools.{both_true}
 use Rattle.replies.specs.Replies.{refused_line, line_in, written_in}
 use Rattle.lines.specs.declared.Row.{Row}
 use Rattle.fields.specs.Fields.{rows_in}
@@ -20,20 +21,19 @@ use Rattle.items.specs.declared.Item.{Item}
 use Rattle.items.proofs.View.{item_number}
 use Rattle.items.proofs.Back.{row_back}
 use Rattle.reading.specs.Rules.{every}
-use Rattle.reading.specs.Reading.{read_refusal, following, items_in, sheet_read, nth_item, item_read}
-use Rattle.reading.specs.declared.SheetRead.TheVariants.{NotRead, Lines}
-use Rattle.reading.specs.declared.ItemRead.TheVariants.{RefusedItem}
-use Rattle.reading.proofs.Answers.{accepted_view, body_items, small_following}
+use Rattle.reading.specs.Reading.{read_refusal, number_of, refusal_of, following, items_in, sheet_read, nth_item, item_read}
+use Rattle.reading.specs.declared.NoSheet.{NoSheet}
+use Rattle.reading.proofs.Answers.{refusal_read, count_read, accepted_view, body_items, small_following}
 use Rattle.item_lines.specs.ItemLines.{item_line}
 use Rattle.item_lines.proofs.ItemLines.{item_line_few}
 use Rattle.desk.specs.Desk.{answer, told, item_lines, read_printed, found_line}
 
 -- ---- lines one after the other
-pub lines_next : (k : ℕ) (is : List Item) → k < length is → item_lines (take (suc k) is) ≡ item_lines (take k is) ++ found_line (nth_item k is)
+pub lines_next : (k : ℕ) (is : List Item) → k < length is → item_lines (take (suc k) is) ≡ item_lines (take k is) ++ found_line (Ok (nth_item k is))
 unfolding item_lines nth_item
 lines_next k [] h = absurd (not-suc-le-zero h)
 lines_next zero (i ∷ is) h = append-nil (item_line i)
-lines_next (suc k) (i ∷ is) h = ap (λ (t : List ℕ). item_line i ++ t) (lines_next k is (le_of_suc-le-suc h)) ∙ sym (append_assoc (item_line i) (item_lines (take k is)) (found_line (nth_item k is)))
+lines_next (suc k) (i ∷ is) h = ap (λ (t : List ℕ). item_line i ++ t) (lines_next k is (le_of_suc-le-suc h)) ∙ sym (append_assoc (item_line i) (item_lines (take k is)) (found_line (Ok (nth_item k is))))
 
 pub lines_none : (is : List Item) → item_lines (take 0 is) ≡ []
 unfolding item_lines
@@ -44,7 +44,7 @@ pub data Short : List Item → Type 0 where
   no_item : Short []
   one_item : {i : Item} {is : List Item} → length (item_line i) ≤ 100 → Short is → Short (i ∷ is)
 
-pub found_short : (k : ℕ) (is : List Item) → Short is → length (found_line (nth_item k is)) ≤ 100
+pub found_short : (k : ℕ) (is : List Item) → Short is → length (found_line (Ok (nth_item k is))) ≤ 100
 unfolding nth_item
 found_short k [] hs = omega arith
 found_short zero (i ∷ is) (one_item h hs) = h
@@ -58,28 +58,13 @@ lines_short (suc k) (i ∷ is) (one_item h hs) = omega (arith, h, lines_short k 
 
 -- ---- what is read
 module _ (text : List ℕ) where
-  accepted : read_refusal text ≡ 0 → sheet_read text ≡ Lines (length (items_in text))
-  unfolding sheet_read
-  accepted e = ap (λ (b : Bool). cond b (Lines (length (items_in text))) (NotRead (read_refusal text))) (eq-eqb (read_refusal text) 0 e)
-
-  refused : (read_refusal text ≡ 0 → ⊥) → sheet_read text ≡ NotRead (read_refusal text)
-  unfolding sheet_read
-  refused h = ap (λ (b : Bool). cond b (Lines (length (items_in text))) (NotRead (read_refusal text))) (ne_eqb (read_refusal text) 0 h)
-
   -- the refusal is told
-  pub read_refused : (n : ℕ) → NotRead n ≡ sheet_read text → told (refused_line n) ≡ read_printed text
+  pub read_refused : (r : NoSheet) → Err r ≡ sheet_read text → told (refused_line (number_of r)) ≡ read_printed text
   unfolding read_printed
-  read_refused n e =
-      by_test (eqb (read_refusal text) 0)
-      (λ t. absurd (not_lines (e ∙ accepted (eqb-true (read_refusal text) 0 t))))
-      (λ f. let same : n ≡ read_refusal text = number_of_holds (e ∙ refused (eqb-false (read_refusal text) 0 f)) in
-      ap (λ (m : ℕ). told (refused_line m)) same ∙ sym (ap (λ (b : Bool). cond b (answer (item_lines (items_in text))) (told (refused_line (read_refusal text)))) f))
-    where
-      not_lines : {m k : ℕ} → NotRead m ≡ Lines k → ⊥
-      not_lines e = let z : ◌≡◌ {A = ℕ} 0 1 = cc in absurd (omega (arith, z))
-
-      number_of_holds : {m k : ℕ} → NotRead m ≡ NotRead k → m ≡ k
-      number_of_holds e = cc
+  read_refused r e =
+      let h = refusal_read text r e in
+      ap (λ (n : ℕ). told (refused_line n)) h.1
+      ∙ sym (ap (λ (b : Bool). cond b (answer (item_lines (items_in text))) (told (refused_line (read_refusal text)))) (ne_eqb (read_refusal text) 0 h.0))
 
   -- the items are answered, and this is their count
   pub record Read (n : ℕ) : Type 0 where
@@ -87,27 +72,19 @@ module _ (text : List ℕ) where
     pub count : n ≡ length (items_in text)
     pub printed : answer (item_lines (items_in text)) ≡ read_printed text
 
-  pub read_lines : (n : ℕ) → Lines n ≡ sheet_read text → Read n
+  pub read_lines : (n : ℕ) → Ok n ≡ sheet_read text → Read n
   unfolding read_printed
   read_lines n e =
-      by_test (eqb (read_refusal text) 0)
-      (λ t. record {
-        none = eqb-true (read_refusal text) 0 t;
-        count = count_of (e ∙ accepted (eqb-true (read_refusal text) 0 t));
-        printed = sym (ap (λ (b : Bool). cond b (answer (item_lines (items_in text))) (told (refused_line (read_refusal text)))) t);
-      })
-      (λ f. absurd (not_refused (e ∙ refused (eqb-false (read_refusal text) 0 f))))
-    where
-      not_refused : {m k : ℕ} → Lines m ≡ NotRead k → ⊥
-      not_refused e = let z : ◌≡◌ {A = ℕ} 0 1 = cc in absurd (omega (arith, z))
-
-      count_of : {m k : ℕ} → Lines m ≡ Lines k → m ≡ k
-      count_of e = cc
+      let h = count_read text n e in record {
+        none = h.0;
+        count = h.1;
+        printed = sym (ap (λ (b : Bool). cond b (answer (item_lines (items_in text))) (told (refused_line (read_refusal text)))) (eq-eqb (read_refusal text) 0 h.0));
+      }
 
   -- the item of a line
-  pub item_read_holds : (k : ℕ) → read_refusal text ≡ 0 → item_read text (suc k) ≡ nth_item k (items_in text)
+  pub item_read_holds : (k : ℕ) → read_refusal text ≡ 0 → item_read text (suc k) ≡ Ok (nth_item k (items_in text))
   unfolding item_read
-  item_read_holds k e = ap (λ (b : Bool). cond b (nth_item k (items_in text)) (RefusedItem (read_refusal text))) (eq-eqb (read_refusal text) 0 e)
+  item_read_holds k e = ap (λ (b : Bool). cond b (Ok (nth_item k (items_in text))) (Err (refusal_of (read_refusal text)))) (eq-eqb (read_refusal text) 0 e)
 
 -- ---- the lines of the items of an accepted text are short
 short_items : (rs : List Row) → SmallRows rs → every is_item rs ≡ true → Short (map item_of rs)

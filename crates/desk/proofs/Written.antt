@@ -6,13 +6,13 @@ use native.Mathlib.Numerals.{add-one}
 use native.Mathlib.Omega.{arith}
 use lib.ListN.{length, take, drop, length-append}
 use lib.Seq.{take_all, take_at}
+use Rattle.std.specs.Prelude.{Option, Result, Ok}
 use Rattle.lists.specs.Put.{fronted}
 use Rattle.lines.specs.Over.{over}
 use Rattle.lines.proofs.Over.{over_front, over_none, Stage, stage_none, stage_next}
 use Rattle.items.specs.declared.Item.{Item}
 use Rattle.reading.specs.Reading.{items_in, sheet_read, nth_item, item_read}
-use Rattle.reading.specs.declared.SheetRead.TheVariants.{Lines}
-use Rattle.reading.specs.declared.ItemRead.{ItemRead}
+use Rattle.reading.specs.declared.NoSheet.{NoSheet}
 use Rattle.reading.proofs.Answers.{few_lines}
 use Rattle.desk.specs.Desk.{item_lines, found_line}
 use Rattle.desk.proofs.Items.{lines_next, lines_none, found_short, lines_short, read_lines, item_read_holds, text_short}
@@ -30,8 +30,8 @@ pub done_none : (text s : List ℕ) → Done text s 0 s 0
 done_none text s = subst (λ (t : List ℕ). Stage 0 s t s 0) (sym (lines_none (items_in text))) (stage_none 0 s)
 
 -- the item of the next line
-module _ (text s cur : List ℕ) (count i at : ℕ) (found : ItemRead) (told : Lines count ≡ sheet_read text) (here : i < count) (read : found ≡ item_read text (i + 1)) (done : Done text s i cur at) where
-  next_item : found ≡ nth_item i (items_in text)
+module _ (text s cur : List ℕ) (count i at : ℕ) (found : Result (Option Item) NoSheet) (told : Ok count ≡ sheet_read text) (here : i < count) (read : found ≡ item_read text (i + 1)) (done : Done text s i cur at) where
+  next_item : found ≡ Ok (nth_item i (items_in text))
   next_item = read ∙ ap (item_read text) (add-one i) ∙ item_read_holds text i (read_lines text count told).none
 
   -- there is room for its line
@@ -40,7 +40,7 @@ module _ (text s cur : List ℕ) (count i at : ℕ) (found : ItemRead) (told : L
       let r = read_lines text count told in
       let short = text_short text r.none in
       let few = few_lines text count told in
-      let line : length (found_line found) ≡ length (found_line (nth_item i (items_in text))) = ap (λ (f : ItemRead). length (found_line f)) next_item in
+      let line : length (found_line found) ≡ length (found_line (Ok (nth_item i (items_in text)))) = ap (λ (f : Result (Option Item) NoSheet). length (found_line f)) next_item in
       omega (arith, room, here, few, line, found_short i (items_in text) short, lines_short i (items_in text) short, done.end, done.long)
 
   -- it is written
@@ -48,21 +48,21 @@ module _ (text s cur : List ℕ) (count i at : ℕ) (found : ItemRead) (told : L
   done_next next m room p q l =
       let r = read_lines text count told in
       let more : item_lines (take i (items_in text)) ++ found_line found ≡ item_lines (take (i + 1) (items_in text)) =
-      ap (λ (f : ItemRead). item_lines (take i (items_in text)) ++ found_line f) next_item
+      ap (λ (f : Result (Option Item) NoSheet). item_lines (take i (items_in text)) ++ found_line f) next_item
       ∙ sym (lines_next i (items_in text) (omega (arith, here, r.count)))
       ∙ ap (λ (k : ℕ). item_lines (take k (items_in text))) (sym (add-one i)) in
       let low : at ≤ length s = omega (arith, found_room room, done.long) in
       subst (λ (t : List ℕ). Stage 0 s t next m) more (stage_next (found_line found) next m done low p q l)
 
 -- after the last
-pub done_all : (text s cur : List ℕ) (count i at : ℕ) → Lines count ≡ sheet_read text → count ≤ i → Done text s i cur at → (at ≡ length (item_lines (items_in text))) × (cur ≡ over 0 (item_lines (items_in text)) s)
+pub done_all : (text s cur : List ℕ) (count i at : ℕ) → Ok count ≡ sheet_read text → count ≤ i → Done text s i cur at → (at ≡ length (item_lines (items_in text))) × (cur ≡ over 0 (item_lines (items_in text)) s)
 done_all text s cur count i at told h done =
     let all : take i (items_in text) ≡ items_in text = take_all i (items_in text) (omega (arith, h, (read_lines text count told).count)) in
     let long : length (item_lines (take i (items_in text))) ≡ length (item_lines (items_in text)) = ap (λ (is : List Item). length (item_lines is)) all in
     (omega (arith, done.end, long), done.written ∙ ap (λ (is : List Item). over 0 (item_lines is) s) all)
 
 -- the lines of all items are at most 16,500 bytes
-pub all_short_holds : (text : List ℕ) (count : ℕ) → Lines count ≡ sheet_read text → length (item_lines (items_in text)) ≤ 16500
+pub all_short_holds : (text : List ℕ) (count : ℕ) → Ok count ≡ sheet_read text → length (item_lines (items_in text)) ≤ 16500
 all_short_holds text count told =
     let r = read_lines text count told in
     let all : length (item_lines (take count (items_in text))) ≡ length (item_lines (items_in text)) = ap (λ (is : List Item). length (item_lines is)) (take_all count (items_in text) (omega (arith, r.count))) in

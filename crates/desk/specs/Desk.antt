@@ -1,6 +1,6 @@
 -- What is printed for a text that may be a situation: its sheet, for the desk or the display, or the coach's lines, the number of the refusal, or one line that says at which number something is wrong and what;
 -- and for one that may be a sheet: a line for each of its items, or the number of the refusal. Definitions only.
-use Rattle.std.specs.Prelude.{cond, List, [], ◌∷◌, ◌++◌, ℕ, ◌+◌, eqb, Float, get_or, take}
+use Rattle.std.specs.Prelude.{cond, Option, Some, None, Result, Ok, Err, List, [], ◌∷◌, ◌++◌, ℕ, ◌+◌, eqb, Float, get_or, take}
 use Rattle.std.specs.Float.{binary32}
 use Rattle.std.specs.Float.Ieee.{of_bits}
 use Rattle.lists.specs.Table.{table}
@@ -8,21 +8,20 @@ use Rattle.game.specs.declared.Situation.{Situation}
 use Rattle.numbers.specs.Numbers.{numbers_of}
 use Rattle.columns.specs.Layout.{word_count}
 use Rattle.input.specs.Input.{first_x, first_y, input_of}
-use Rattle.input.specs.declared.Input.{Input}
-use Rattle.input.specs.declared.Input.TheVariants.{Read, Wrong}
+use Rattle.input.specs.declared.Lists.{Lists}
+use Rattle.input.specs.declared.Wrong.{Wrong}
 use Rattle.words.specs.Words.{situation_of}
 use Rattle.decision.specs.Decision.{decision_of}
+use Rattle.refusal.specs.Refusal.{number_of}
+use Rattle.refusal.specs.declared.Refusal.{Refusal}
 use Rattle.replies.specs.Replies.{fault_line, refused_line, line_in, written_in}
 use Rattle.call.specs.declared.SheetFor.TheVariants.{Desk, Display}
 use Rattle.call.specs.Call.{sheet_answer, sheet_after}
 use Rattle.coach.specs.Coach.{sentences_of, sentences_answer, sentences_after}
 use Rattle.sheet.specs.Sheet.{text_of}
-use Rattle.sheet.specs.declared.text.SheetAnswer.{SheetAnswer}
-use Rattle.sheet.specs.declared.text.SheetAnswer.TheVariants.{Refused, Written}
 use Rattle.items.specs.declared.Item.{Item}
 use Rattle.reading.specs.Reading.{read_refusal, items_in}
-use Rattle.reading.specs.declared.ItemRead.{ItemRead}
-use Rattle.reading.specs.declared.ItemRead.TheVariants.{RefusedItem, NoItem, ItemAt}
+use Rattle.reading.specs.declared.NoSheet.{NoSheet}
 use Rattle.item_lines.specs.ItemLines.{item_line}
 use Rattle.desk.specs.declared.Reply.{Reply}
 use Rattle.desk.specs.declared.Reply.TheVariants.{Answer, Told}
@@ -39,9 +38,9 @@ unfoldable pub places_from : List ℕ → ℕ → ℕ → List Float
 places_from ns from n = table n (λ k. of_bits binary32 (get_or ns (from + k) 0))
 
 -- the text that is written, or the line of the refusal
-abbrev pub answer_printed : SheetAnswer → List ℕ → Printed
-answer_printed (Refused n) text = told (refused_line n)
-answer_printed (Written n) text = answer text
+abbrev pub answer_printed : Result ℕ Refusal → List ℕ → Printed
+answer_printed (Err refusal) text = told (refused_line (number_of refusal))
+answer_printed (Ok n) text = answer text
 
 -- the text that is wanted of a situation
 abbrev pub wanted_text : Wanted → Situation → List Float → List Float → List ℕ
@@ -49,7 +48,7 @@ wanted_text (Sheet to) s xs ys = text_of (decision_of s xs ys)
 wanted_text Sentences s xs ys = sentences_of s
 
 -- what is then answered, and the lent bytes after it
-abbrev pub wanted_answer : Wanted → Situation → List Float → List Float → ℕ → SheetAnswer
+abbrev pub wanted_answer : Wanted → Situation → List Float → List Float → ℕ → Result ℕ Refusal
 wanted_answer (Sheet to) s xs ys lent = sheet_answer to s xs ys lent
 wanted_answer Sentences s xs ys lent = sentences_answer s xs ys lent
 
@@ -66,9 +65,9 @@ unfoldable pub numbers_printed : Wanted → List ℕ → ℕ → ℕ → ℕ →
 numbers_printed wanted ns nx ny lent = situation_printed wanted (situation_of (take word_count ns)) (places_from ns first_x nx) (places_from ns (first_y + nx) ny) lent
 
 -- by what the text is
-abbrev pub input_printed : Wanted → Input → List ℕ → ℕ → Printed
-input_printed wanted (Read nx ny) ns lent = numbers_printed wanted ns nx ny lent
-input_printed wanted (Wrong i fault) ns lent = told (fault_line ns i fault)
+abbrev pub input_printed : Wanted → Result Lists Wrong → List ℕ → ℕ → Printed
+input_printed wanted (Ok lists) ns lent = numbers_printed wanted ns lists.xs lists.ys lent
+input_printed wanted (Err wrong) ns lent = told (fault_line ns wrong.place wrong.fault)
 
 -- for a text
 unfoldable pub text_printed : Wanted → List ℕ → ℕ → Printed
@@ -112,7 +111,7 @@ reply_in (answer text) out = Answer (written_in text out)
 reply_in (told text) out = Told (written_in text out)
 
 -- ---- of the private functions: the line of what is read of a line, where it is an item
-abbrev pub found_line : ItemRead → List ℕ
-found_line (RefusedItem n) = []
-found_line NoItem = []
-found_line (ItemAt item) = item_line item
+abbrev pub found_line : Result (Option Item) NoSheet → List ℕ
+found_line (Err refusal) = []
+found_line (Ok None) = []
+found_line (Ok (Some item)) = item_line item

@@ -1,21 +1,20 @@
 // What the program `judge` prints for what it reads: a sheet, the coach's lines, the items of a sheet, a refusal, or what is wrong with the input.
 #![tactic(auto)]
 
-ghost use Rattle.std.specs.Prelude.{◌≡◌, ◌+◌, ◌≤◌, length};
+ghost use Rattle.std.specs.Prelude.{◌≡◌, ◌+◌, ◌≤◌, Ok, length};
 ghost use Rattle.lines.specs.Over.{over};
 ghost use Rattle.input.specs.Input.{most_places, numbers_for};
 ghost use Rattle.reading.specs.Reading.{items_in, sheet_read};
-ghost use Rattle.reading.specs.declared.SheetRead.TheVariants.{Lines};
 ghost use Rattle.item_lines.specs.ItemLines.{item_line};
 ghost use Rattle.desk.specs.Desk as Spec;
 
 use call::SheetFor;
 use columns::layout::WORDS;
 use game::Situation;
-use input::{FIRST_X, FIRST_Y, Input, NUMBERS, PLACES};
+use input::{FIRST_X, FIRST_Y, NUMBERS, PLACES};
 use items::Item;
-use reading::{ItemRead, SheetRead};
-use sheet::SheetAnswer;
+use reading::NoSheet;
+use refusal::Refusal;
 
 // What was written, of so many bytes: an answer, a sheet, the coach's lines or those of items, or something else that is told, a refusal or what is wrong with the input.
 #[derive(Clone, Copy)]
@@ -38,7 +37,7 @@ fn write_wanted<'a>(
     xs: &'a [f32],
     ys: &'a [f32],
     out: &mut [u8],
-) -> SheetAnswer
+) -> Result<usize, Refusal>
     ensures value { result ≡ Spec.wanted_answer wanted s xs.now ys.now (length out.old) }
     ensures out_after { out.new ≡ Spec.wanted_after wanted s xs.now ys.now out.old }
 {
@@ -61,8 +60,8 @@ fn judge_situation<'a>(
 {
     let answer = write_wanted(wanted, s, xs, ys, out);
     match answer {
-        SheetAnswer::Refused(n) => Reply::Told(replies::refused_line(n, out)),
-        SheetAnswer::Written(n) => Reply::Answer(n),
+        Err(refused) => Reply::Told(replies::refused_line(refusal::number_of(refused), out)),
+        Ok(n) => Reply::Answer(n),
     }
 }
 
@@ -87,10 +86,9 @@ fn judge_text(wanted: Wanted, text: &[u8], out: &mut [u8]) -> Reply
     ensures out_after { out.new ≡ Spec.printed_in (Spec.text_printed wanted text.now (length out.old)) out.old }
 {
     let mut numbers = [0u32; NUMBERS];
-    let input = input::read_input(text, &mut numbers);
-    match input {
-        Input::Read(nx, ny) => judge_numbers(wanted, &numbers, nx, ny, out),
-        Input::Wrong(i, fault) => Reply::Told(replies::fault_line(&numbers, i, fault, out)),
+    match input::read_input(text, &mut numbers) {
+        Ok(lists) => judge_numbers(wanted, &numbers, lists.xs, lists.ys, out),
+        Err(wrong) => Reply::Told(replies::fault_line(&numbers, wrong.place, wrong.fault, out)),
     }
 }
 
@@ -133,30 +131,28 @@ fn put_item(lines: &mut [u8], at: usize, item: Item) -> usize
 }
 
 // The same of what is read of a line; of nothing, nothing.
-fn put_found(lines: &mut [u8], at: usize, found: ItemRead) -> usize
+fn put_found(lines: &mut [u8], at: usize, found: Result<Option<Item>, NoSheet>) -> usize
     requires { at + length (Spec.found_line found) ≤ length lines.old }
     ensures value { result ≡ at + length (Spec.found_line found) }
     ensures lines_after { lines.new ≡ over at (Spec.found_line found) lines.old }
 {
     match found {
-        ItemRead::RefusedItem(_) => at,
-        ItemRead::NoItem => at,
-        ItemRead::ItemAt(item) => put_item(lines, at, item),
+        Err(_) => at,
+        Ok(None) => at,
+        Ok(Some(item)) => put_item(lines, at, item),
     }
 }
 
 // Writes the lines of all items of a sheet, and answers the place after them.
 fn put_items(text: &[u8], count: usize, lines: &mut [u8]) -> usize
-    requires { (Lines count ≡ sheet_read text.now) × (16500 ≤ length lines.old) }
+    requires { (Ok count ≡ sheet_read text.now) × (16500 ≤ length lines.old) }
     ensures value { result ≡ length (Spec.item_lines (items_in text.now)) }
     ensures lines_after { lines.new ≡ over 0 (Spec.item_lines (items_in text.now)) lines.old }
 {
     let mut at: usize = 0;
-    let mut i: usize = 0;
-    while i < count {
+    for i in 0..count {
         let found = reading::read_item(text, i + 1);
         at = put_found(lines, at, found);
-        i += 1;
     }
     at
 }
@@ -169,8 +165,8 @@ pub fn read(text: &[u8], out: &mut [u8]) -> Reply
 {
     let answer = reading::read_sheet(text);
     match answer {
-        SheetRead::NotRead(n) => Reply::Told(replies::refused_line(n, out)),
-        SheetRead::Lines(count) => {
+        Err(refusal) => Reply::Told(replies::refused_line(reading::number_of(refusal), out)),
+        Ok(count) => {
             let mut lines = [0u8; ITEMS];
             let n = put_items(text, count, &mut lines);
             Reply::Answer(replies::told(&lines[..n], out))

@@ -13,11 +13,8 @@ use Rattle.lists.specs.Table.{table, filled}
 use Rattle.lists.proofs.Table.{length_table, table_same}
 use Rattle.floats.specs.Arithmetic.{zero32}
 use Rattle.game.specs.declared.Team.{Team}
-use Rattle.game.specs.declared.MaybeMargins.{MaybeMargins}
-use Rattle.game.specs.declared.MaybeMargins.TheVariants.{NoMargins}
 use Rattle.game.specs.declared.Player.{Player}
 use Rattle.game.specs.Game.{is_unpenalized}
-use Rattle.game.specs.declared.PlayerMargins.{PlayerMargins}
 use Rattle.game.specs.declared.PlayerList.{PlayerList}
 use Rattle.game.specs.Players.{player_at, margins_at, listed}
 use Rattle.lists.specs.Ranking.{and_then, is_less, ranked}
@@ -27,6 +24,8 @@ use Rattle.excess.specs.ExcessKeys.{margin_order, Small, SmallAt, inside_key, pl
 use Rattle.lists.proofs.Counting.{count_same}
 use Rattle.lists.proofs.Ranking.{lexical, ranked_same}
 use Rattle.lists.proofs.Bools.{same_test, by_test}
+use Rattle.std.specs.Prelude.{Option, None}
+use Rattle.game.specs.declared.Margins.{Margins}
 
 -- a counted array by its parts
 abbrev counting : ℕ → List ℕ → PlayerList
@@ -65,18 +64,18 @@ le_nan (inf s) = refl
 le_nan (fin s m e) = refl
 
 -- without margins nobody is in the area
-pub absent : (p : Player) (m : MaybeMargins) → m ≡ NoMargins → is_in_goal_area p m ≡ false
+pub absent : (p : Player) (m : Option Margins) → m ≡ None → is_in_goal_area p m ≡ false
 unfolding is_in_goal_area
-absent p m e = ap (λ (x : MaybeMargins). is_unpenalized p.penalty && le zero32 (own_margin x)) e ∙ ap (λ (b : Bool). is_unpenalized p.penalty && b) (le_nan zero32) ∙ and-false (is_unpenalized p.penalty)
+absent p m e = ap (λ (x : Option Margins). is_unpenalized p.penalty && le zero32 (own_margin x)) e ∙ ap (λ (b : Bool). is_unpenalized p.penalty && b) (le_nan zero32) ∙ and-false (is_unpenalized p.penalty)
 
 -- who is not in the area has none
-pub no_key_holds : (prefer : Bool) (p : Player) (m : MaybeMargins) (i : ℕ) → is_in_goal_area p m ≡ false → (no_key ≡ player_key prefer p m i) × Small p m
+pub no_key_holds : (prefer : Bool) (p : Player) (m : Option Margins) (i : ℕ) → is_in_goal_area p m ≡ false → (no_key ≡ player_key prefer p m i) × Small p m
 unfolding player_key
 no_key_holds prefer p m i f =
     (sym (ap (λ (b : Bool). cond b (inside_key (is_newcomer prefer p) (margin_order m) i) no_key) f), λ (t : is_in_goal_area p m ≡ true). absurd (true≢false (sym t ∙ f)))
 
 -- and who is has that of its parts
-pub its_key : (prefer : Bool) (p : Player) (m : MaybeMargins) (i x : ℕ) (newcomer : Bool) → is_in_goal_area p m ≡ true → is_newcomer prefer p ≡ newcomer → x ≡ margin_order m → x < 0x1_0000_0000
+pub its_key : (prefer : Bool) (p : Player) (m : Option Margins) (i x : ℕ) (newcomer : Bool) → is_in_goal_area p m ≡ true → is_newcomer prefer p ≡ newcomer → x ≡ margin_order m → x < 0x1_0000_0000
     → (inside_key newcomer x i ≡ player_key prefer p m i) × Small p m
 unfolding player_key
 its_key prefer p m i x newcomer t e o h = (
@@ -85,7 +84,7 @@ its_key prefer p m i x newcomer t e o h = (
 )
 
 -- ---- the keys of a team
-module _ (team : Team) (margins : List PlayerMargins) (prefer : Bool) (keys : ℕ → ℕ)
+module _ (team : Team) (margins : List (Option Margins)) (prefer : Bool) (keys : ℕ → ℕ)
     (these : (k : ℕ) → k < 20 → keys k ≡ naming_key team margins prefer k)
     (small : (k : ℕ) → k < 20 → SmallAt team margins k)
   where

@@ -16,7 +16,6 @@ use Rattle.floats.specs.Arithmetic.{zero32}
 use Rattle.game.specs.declared.Team.{Team}
 use Rattle.game.specs.declared.Penalty.{Penalty}
 use Rattle.game.specs.declared.Player.{Player}
-use Rattle.game.specs.declared.PlayerMargins.{PlayerMargins}
 use Rattle.game.specs.Game.{is_unpenalized}
 use Rattle.game.specs.Players.{player_at, margins_at, listed}
 use Rattle.geometry.specs.Turned.{changed_team}
@@ -29,6 +28,8 @@ use Rattle.lists.proofs.Ranking as R
 use Rattle.lists.proofs.Ranking.{ranked_same}
 use Rattle.lists.proofs.Bools.{by_test}
 use Rattle.lists.proofs.Lexical.{Sooner, sooner, is_sooner, not_itself, through, one_of_two}
+use Rattle.std.specs.Prelude.{Option}
+use Rattle.game.specs.declared.Margins.{Margins}
 
 -- newcomers first, as a comparison of numbers
 late : Bool → ℕ
@@ -42,7 +43,7 @@ as_numbers true false = refl
 as_numbers false true = refl
 as_numbers false false = refl
 
-module _ (team : Team) (margins : List PlayerMargins) (prefer : Bool) where
+module _ (team : Team) (margins : List (Option Margins)) (prefer : Bool) where
   -- ---- the order of naming is a strict total order
   Earlier : ℕ → ℕ → Type 0
   Earlier i j = Sooner (late (is_newcomer prefer (player_at team i))) (late (is_newcomer prefer (player_at team j))) (margin_order (margins_at margins i)) (margin_order (margins_at margins j)) (j < i)
@@ -134,7 +135,7 @@ module _ (team : Team) (margins : List PlayerMargins) (prefer : Bool) where
       (omega (arith, far, (there k h).2))
 
 -- ---- the list depends on the penalties, on who was inside before and on the margins alone
-module _ (team other : Team) (margins : List PlayerMargins) (prefer : Bool)
+module _ (team other : Team) (margins : List (Option Margins)) (prefer : Bool)
     (penalties : (i : ℕ) → i < 20 → (player_at other i).penalty ≡ (player_at team i).penalty)
     (flags : (i : ℕ) → i < 20 → (player_at other i).previously_inside ≡ (player_at team i).previously_inside)
   where
@@ -168,6 +169,6 @@ module _ (team other : Team) (margins : List PlayerMargins) (prefer : Bool)
         ∙ table_same (inside team margins - allowed) (λ k. named other margins prefer k + 1) (λ k. named team margins prefer k + 1) (λ k l. ap (λ (i : ℕ). i + 1) (same_named k)))
 
 -- so a half turn and a mirror image, which keep these, keep it
-pub excess_changed : (a b : Bool) (t : Team) (m : List PlayerMargins) (newcomers : Bool) → goal_area_excess (changed_team a b t) m newcomers ≡ goal_area_excess t m newcomers
+pub excess_changed : (a b : Bool) (t : Team) (m : List (Option Margins)) (newcomers : Bool) → goal_area_excess (changed_team a b t) m newcomers ≡ goal_area_excess t m newcomers
 excess_changed a b t m newcomers =
     excess_same t (changed_team a b t) m newcomers (λ i h. ap (λ (q : Player). q.penalty) (player_at_changed a b t i)) (λ i h. ap (λ (q : Player). q.previously_inside) (player_at_changed a b t i))

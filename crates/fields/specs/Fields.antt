@@ -1,11 +1,9 @@
 -- Lines of the sheet, read back: 45 bytes each, four numbers right-justified with blanks in 11 columns and a line feed. Definitions only.
-use Rattle.std.specs.Prelude.{Bool, true, false, not, ◌&&◌, cond, List, [], ◌∷◌, ℕ, suc, ◌*◌, ◌/◌, ◌%◌, eqb, length, take, drop, get_or}
+use Rattle.std.specs.Prelude.{Bool, true, false, not, ◌&&◌, cond, Option, None, Some, List, [], ◌∷◌, ℕ, suc, ◌*◌, ◌/◌, ◌%◌, eqb, length, take, drop, get_or}
 use Rattle.lists.specs.Every.{every_to}
 use Rattle.lists.specs.Table.{table}
 use Rattle.numbers.specs.Numbers.{all_digits, value_from, value_of, is_small}
 use Rattle.lines.specs.declared.Row.{Row}
-use Rattle.fields.specs.declared.ReadLine.{ReadLine}
-use Rattle.fields.specs.declared.ReadLine.TheVariants.{NoLine, Line}
 
 -- ---- a number in its columns
 -- one blank more than the rest has at its front, or none
@@ -59,8 +57,8 @@ unfoldable pub row_in : List ℕ → Row
 row_in l = record { kind = field_value (columns_from 0 l); side = field_value (columns_from 11 l); number = field_value (columns_from 22 l); value = field_value (columns_from 33 l) }
 
 -- what is read of it
-unfoldable pub line_read : List ℕ → ReadLine
-line_read l = cond (is_line l) (Line (row_in l)) NoLine
+unfoldable pub line_read : List ℕ → Option Row
+line_read l = cond (is_line l) (Some (row_in l)) None
 
 -- ---- a text
 -- the bytes of its line i, from 0; fewer than 45 where the text ends
@@ -79,10 +77,10 @@ column_form text = eqb (length text % 45) 0 && every_to (line_count text) (λ i.
 unfoldable pub rows_in : List ℕ → List Row
 rows_in text = table (line_count text) (λ i. row_in (line_at text i))
 
--- ---- of the private functions: the number in the columns, 2^32 where there is none
-unfoldable pub value_in : List ℕ → ℕ
-value_in columns = cond (is_field columns) (field_value columns) 4294967296
+-- ---- of the private functions: the number in the columns, none where they hold no number
+unfoldable pub value_in : List ℕ → Option ℕ
+value_in columns = cond (is_field columns) (Some (field_value columns)) None
 
--- the number that the digits f after those of v are, 2^32 where they are none or it is above 4,294,967,295
-unfoldable pub digits_from : ℕ → List ℕ → ℕ
-digits_from v f = cond (all_digits f && is_small (value_from v f)) (value_from v f) 4294967296
+-- the number that the digits f after those of v are, none where they are no digits or it is above 4,294,967,295
+unfoldable pub digits_from : ℕ → List ℕ → Option ℕ
+digits_from v f = cond (all_digits f && is_small (value_from v f)) (Some (value_from v f)) None

@@ -1,9 +1,9 @@
--- The enum `Order` for the three ways in which two numbers compare.
+-- The library's `Ordering` for the three ways in which two numbers compare.
 use Prim.Native.Nat.{Ordering}
-use Rattle.floats.specs.declared.Order.{Order}
-use Rattle.floats.specs.declared.Order.TheVariants.{Less, Equal, Greater}
+use Rattle.std.specs.declared.cmp.Ordering as Std
+use Rattle.std.specs.declared.cmp.Ordering.TheVariants.{Less, Equal, Greater}
 
-abbrev pub order : Ordering → Order
+abbrev pub order : Ordering → Std.Ordering
 order Ordering.lt = Less
 order Ordering.eq = Equal
 order Ordering.gt = Greater

@@ -10,6 +10,8 @@ ghost use Rattle.floats.specs.Compare as Compare;
 
 mod remainder;
 
+use std::cmp::Ordering;
+
 // The f32 nearest to pi.
 pub const PI: f32 = 3.14159274;
 
@@ -113,26 +115,12 @@ pub fn total_key(b: u32) -> u32
     }
 }
 
-// How two values compare.
-#[derive(Clone, Copy)]
-pub enum Order {
-    Less,
-    Equal,
-    Greater,
-}
-
-pub fn total_cmp(x: f32, y: f32) -> Order
+pub fn total_cmp(x: f32, y: f32) -> Ordering
     ensures { result ≡ Compare.order (Spec.total_order x y) }
 {
     let a = total_key(bits(x));
     let b = total_key(bits(y));
-    if a < b {
-        Order::Less
-    } else if a == b {
-        Order::Equal
-    } else {
-        Order::Greater
-    }
+    a.cmp(&b)
 }
 
 pub fn rem_euclid(x: f32, y: f32) -> f32

@@ -1,6 +1,6 @@
 -- Playing frames in a row: what is kept between frames, and what a frame and a touch of the ball make of it. Each part has the name of the function of the original that it is from, and `update` has
 -- them in the original's order. Definitions only.
-use Rattle.std.specs.Prelude.{Bool, true, false, not, cond, ◌&&◌, List, ℕ, ◌≡◌, eqb, ltb, replicate, Float}
+use Rattle.std.specs.Prelude.{Bool, true, false, not, cond, ◌&&◌, List, ℕ, ◌≡◌, eqb, ltb, replicate, Float, Option, None, Some}
 use Rattle.lists.specs.Refusals.{Requirement, first_refusal}
 use Rattle.floats.specs.Arithmetic.{zero32}
 use Rattle.game.specs.Game.{is_shootout, is_set}
@@ -8,13 +8,6 @@ use Rattle.game.specs.Players.{team_of}
 use Rattle.game.specs.declared.Ball.{Ball}
 use Rattle.game.specs.declared.Decision.{Decision}
 use Rattle.game.specs.declared.Game.{Game}
-use Rattle.game.specs.declared.MaybeNumber.{MaybeNumber}
-use Rattle.game.specs.declared.MaybeNumber.TheVariants.{NoNumber, Number}
-use Rattle.game.specs.declared.MaybeRestart.{MaybeRestart}
-use Rattle.game.specs.declared.MaybeRestart.TheVariants.{NoRestart}
-use Rattle.game.specs.declared.MaybeSide.{MaybeSide}
-use Rattle.game.specs.declared.MaybeSide.TheVariants.{NoSide, Of}
-use Rattle.game.specs.declared.PlayerMargins.{PlayerMargins}
 use Rattle.game.specs.declared.SetPlay.{SetPlay}
 use Rattle.game.specs.declared.SetPlay.TheVariants.{NoSetPlay, KickOff, DirectFreeKick, IndirectFreeKick, PenaltyKick, ThrowIn, GoalKick, CornerKick}
 use Rattle.game.specs.declared.Side.{Side}
@@ -28,24 +21,23 @@ use Rattle.refusals.specs.Refusals.{field_fits, poses_fit, ball_fits, numbers_fi
 use Rattle.decision.specs.Decision.{side_margins, decision_of, empty_decision}
 use Rattle.restarts.specs.Restarts.{touched_restart, observed_restart, tracked_restart}
 use Rattle.restarts.specs.declared.TouchCall.{TouchCall}
-use Rattle.restarts.specs.declared.TouchCall.TheVariants as touch
 use Rattle.restarts.specs.declared.TouchedRestart.{TouchedRestart}
 use Rattle.remembered.specs.Remembered as Kept
 use Rattle.remembered.specs.Remembered.{nothing, observe_players, returning_players, avoidance_players, judged_team, last_seen_team}
 use Rattle.remembered.specs.declared.Remembered.{Remembered}
 use Rattle.penalties.specs.Penalties as Penalties
 use Rattle.penalties.specs.Penalties.{inside_players}
-use Rattle.penalties.specs.declared.PlayerCall.TheVariants as player
 use Rattle.penalties.specs.declared.Penalized.{Penalized}
 use Rattle.memory_fits.specs.MemoryFits.{allowances_fit, kick_fits, memory_numbers_fit}
 use Rattle.frames.specs.declared.Memory.{Memory}
 use Rattle.frames.specs.declared.Touch.{Touch}
-use Rattle.frames.specs.declared.Touch.TheVariants.{NoTouch, GoesOn, New}
 use Rattle.frames.specs.declared.Events.{Events}
 use Rattle.frames.specs.declared.Calls.{Calls}
 use Rattle.frames.specs.declared.Touched.{Touched}
 use Rattle.frames.specs.declared.Framed.{Framed}
 use Rattle.frames.specs.declared.Step.{Step}
+use Rattle.game.specs.declared.Margins.{Margins}
+use Rattle.game.specs.declared.Restart.{Restart}
 
 -- ---- the memory
 -- where the ball is before the first frame
@@ -54,7 +46,7 @@ origin_ball = record { x = zero32; y = zero32; z = zero32 }
 
 -- with which the original begins
 unfoldable pub new_memory : Memory
-new_memory = record { home = replicate 20 nothing; away = replicate 20 nothing; kicking_player = NoNumber; restart = NoRestart; ball = origin_ball }
+new_memory = record { home = replicate 20 nothing; away = replicate 20 nothing; kicking_player = None; restart = None; ball = origin_ball }
 
 -- what is remembered of a side's players
 abbrev pub remembered_of : Memory → Side → List Remembered
@@ -79,16 +71,14 @@ abbrev pub is_set_begun : Game → Events → Bool
 is_set_begun g e = e.set_begun && is_set g.state
 
 -- who touches the ball
-abbrev pub toucher : Touch → MaybeNumber
-toucher NoTouch = NoNumber
-toucher (GoesOn side n) = Number n
-toucher (New side n) = Number n
+abbrev pub toucher : Option Touch → Option ℕ
+toucher None = None
+toucher (Some t) = Some t.number
 
 -- the side that touched the ball last: that of the touch, new or not, otherwise as the frame says
-abbrev pub contact_by : Touch → MaybeSide → MaybeSide
-contact_by NoTouch last = last
-contact_by (GoesOn side n) last = Of side
-contact_by (New side n) last = Of side
+abbrev pub contact_by : Option Touch → Option Side → Option Side
+contact_by None last = last
+contact_by (Some t) last = Some t.side
 
 -- ---- ball_contact
 -- how many players of a side were on the field: those present in the last frame, by the frame's own penalties
@@ -96,17 +86,17 @@ abbrev pub players_before : Memory → Situation → Side → ℕ
 players_before m s side = players_on_field (last_seen_team (team_of s side) (remembered_of m side))
 
 -- with another restart
-abbrev pub with_restart : Memory → MaybeRestart → Memory
+abbrev pub with_restart : Memory → Option Restart → Memory
 with_restart m r = record { home = m.home; away = m.away; kicking_player = m.kicking_player; restart = r; ball = m.ball }
 
 abbrev pub with_touched : Memory → TouchedRestart → Touched
 with_touched m t = record { memory = with_restart m t.restart; call = t.call }
 
 -- a new touch is one of the restart that came in, against the frame's own game, where the ball was in the last frame
-unfoldable pub ball_contact : Touch → Situation → Memory → Touched
-ball_contact NoTouch s m = record { memory = m; call = touch.NoCall }
-ball_contact (GoesOn side n) s m = record { memory = m; call = touch.NoCall }
-ball_contact (New side n) s m = with_touched m (touched_restart s.game s.field m.ball side n (players_before m s side) m.restart)
+unfoldable pub ball_contact : Option Touch → Situation → Memory → Touched
+ball_contact None s m = record { memory = m; call = None }
+ball_contact (Some t) s m =
+    cond t.is_new (with_touched m (touched_restart s.game s.field m.ball t.side t.number (players_before m s t.side) m.restart)) (record { memory = m; call = None })
 
 -- ---- observe
 -- kick-offs and penalty kicks have a kicking player
@@ -121,16 +111,16 @@ has_kicking_player GoalKick = false
 has_kicking_player CornerKick = false
 
 -- the kicking player once Set has just begun, by the side that kicks
-abbrev pub kicker_in_set : MaybeSide → Situation → MaybeNumber → MaybeNumber
-kicker_in_set NoSide s k = k
-kicker_in_set (Of side) s k = determine_kicking_player s.game (team_of s side) s.field (side_margins s side) side
+abbrev pub kicker_in_set : Option Side → Situation → Option ℕ → Option ℕ
+kicker_in_set None s k = k
+kicker_in_set (Some side) s k = determine_kicking_player s.game (team_of s side) s.field (side_margins s side) side
 
 -- none once a set play has just begun
-abbrev pub kept_kicker : Bool → MaybeNumber → MaybeNumber
-kept_kicker began k = cond began NoNumber k
+abbrev pub kept_kicker : Bool → Option ℕ → Option ℕ
+kept_kicker began k = cond began None k
 
 -- and then chosen anew once Set has just begun for a kick-off or a penalty kick outside a shoot-out
-unfoldable pub observed_kicker : Situation → Bool → Bool → MaybeNumber → MaybeNumber
+unfoldable pub observed_kicker : Situation → Bool → Bool → Option ℕ → Option ℕ
 observed_kicker s began set k =
     cond (set && not (is_shootout s.game.phase) && has_kicking_player s.game.set_play) (kicker_in_set s.game.kicking_side s (kept_kicker began k)) (kept_kicker began k)
 
@@ -164,7 +154,7 @@ update s e m = update_avoidance s (update_returning s (track_ball s (detect_move
 
 -- ---- the frame as it is judged: four things are replaced. Allowances are the memory's as updated, with the tolerance, 0 where there is none; who was inside its goal area is the memory's as it came in,
 -- which only penalize_players changes; the Restart is the memory's as it goes out; the last contact is by the touch
-unfoldable pub judged_frame : Situation → Touch → Memory → Situation
+unfoldable pub judged_frame : Situation → Option Touch → Memory → Situation
 judged_frame s t m =
     record {
       field = s.field;
@@ -182,7 +172,7 @@ judged_frame s t m =
 
 -- ---- penalize_players
 -- of one side, by its part of the frame's decision; k is the kicking player before it
-unfoldable pub penalize_side : Situation → Bool → SideDecision → Side → Memory → MaybeNumber → Penalized
+unfoldable pub penalize_side : Situation → Bool → SideDecision → Side → Memory → Option ℕ → Penalized
 penalize_side j grace d side m k = Penalties.penalize_players j.game j.field (team_of j side) d.verdicts d.excess (remembered_of m side) grace k
 
 -- who is inside its goal area, for the next frame
@@ -190,11 +180,11 @@ abbrev pub inside_now : Situation → Memory → Memory
 inside_now j m = with_players (λ side l. inside_players (team_of j side) (side_margins j side) l) m
 
 -- with another kicking player
-abbrev pub with_kicking : MaybeNumber → Memory → Memory
+abbrev pub with_kicking : Option ℕ → Memory → Memory
 with_kicking k m = record { home = m.home; away = m.away; kicking_player = k; restart = m.restart; ball = m.ball }
 
 -- both sides in turn, Home first, since the first may name the kicking player; j is the frame as it is judged and d its decision
-unfoldable pub penalize_players : Situation → Bool → TouchCall → Decision → Memory → Framed
+unfoldable pub penalize_players : Situation → Bool → Option TouchCall → Decision → Memory → Framed
 penalize_players j grace call d m =
     let home = penalize_side j grace d.home Home m m.kicking_player in
     let away = penalize_side j grace d.away Away m home.kicking_player in
@@ -206,7 +196,7 @@ penalize_players j grace call d m =
 
 -- ---- a frame
 -- after its touch, whose call is handed on: the memory is updated, the frame as it is judged is decided on, and the players are penalised
-unfoldable pub frame_of : Situation → Events → List Float → List Float → TouchCall → Memory → Framed
+unfoldable pub frame_of : Situation → Events → List Float → List Float → Option TouchCall → Memory → Framed
 frame_of s e xs ys call m =
     let next = update s e m in
     let judged = judged_frame s e.touch next in
@@ -234,7 +224,7 @@ step_refusal m s e xs ys = first_refusal (step_requirements m s e xs ys)
 -- ---- the step
 -- nobody is called
 unfoldable pub no_calls : Calls
-no_calls = record { touch = touch.NoCall; home = replicate 20 (record { call = player.NoCall }); away = replicate 20 (record { call = player.NoCall }) }
+no_calls = record { touch = None; home = replicate 20 None; away = replicate 20 None }
 
 abbrev pub accepted : Framed → Step
 accepted f = record { refusal = 0; memory = f.memory; calls = f.calls; decision = f.decision }
@@ -248,7 +238,7 @@ step_of m s e xs ys = cond (eqb (step_refusal m s e xs ys) 0) (accepted (played_
 
 -- ---- of the private functions
 -- the margins of both sides' players
-abbrev pub AreMargins : Situation → List PlayerMargins → List PlayerMargins → Type 0
+abbrev pub AreMargins : Situation → List (Option Margins) → List (Option Margins) → Type 0
 AreMargins s home away = (home ≡ side_margins s Home) × (away ≡ side_margins s Away)
 
 -- the lower of two refusals, of which 0 is none

@@ -2,14 +2,11 @@
 #![tactic(auto)]
 
 ghost use Rattle.std.specs.Prelude.{◌≡◌};
-ghost use Rattle.positioning.specs.Positioning.{is_set_play};
 ghost use Rattle.frames.specs.Frames as Spec;
 
-use game::{
-    Ball, Decision, MaybeNumber, MaybeRestart, MaybeSide, PlayerMargins, SetPlay, Side, Situation,
-};
-use penalties::{Called, PlayerCall};
-use remembered::{MaybeAllowance, Remembered};
+use game::{Ball, Decision, Margins, Restart, SetPlay, Side, Situation};
+use penalties::PlayerCall;
+use remembered::Remembered;
 use restarts::TouchCall;
 
 // What is kept between frames for positioning: of each player, the player that may take the kick-off or penalty kick, the restart that is in effect, and where the ball was in the last frame.
@@ -17,17 +14,17 @@ use restarts::TouchCall;
 pub struct Memory {
     pub home: [Remembered; 20],
     pub away: [Remembered; 20],
-    pub kicking_player: MaybeNumber,
-    pub restart: MaybeRestart,
+    pub kicking_player: Option<u8>,
+    pub restart: Option<Restart>,
     pub ball: Ball,
 }
 
 // A touch of the ball, by a player of a side: one that goes on from the frame before, or a new one.
-#[derive(Clone, Copy)]
-pub enum Touch {
-    NoTouch,
-    GoesOn(Side, u8),
-    New(Side, u8),
+#[derive(Clone, Copy, PartialEq, Eq)]
+pub struct Touch {
+    pub side: Side,
+    pub number: u8,
+    pub is_new: bool,
 }
 
 // What has happened since the last frame, beside what the frame itself shows.
@@ -37,22 +34,22 @@ pub struct Events {
     pub set_play_begun: bool,
     pub set_play_ended: bool,
     pub set_begun: bool,
-    pub touch: Touch,
+    pub touch: Option<Touch>,
 }
 
 // The calls of a frame, in their order: that of the touch, those on Home's players and those on Away's.
 #[derive(Clone, Copy)]
 pub struct Calls {
-    pub touch: TouchCall,
-    pub home: [Called; 20],
-    pub away: [Called; 20],
+    pub touch: Option<TouchCall>,
+    pub home: [Option<PlayerCall>; 20],
+    pub away: [Option<PlayerCall>; 20],
 }
 
-// The memory after a touch, and what is called for it.
+// The memory after a touch, and what is called for it, if anything.
 #[derive(Clone, Copy)]
 pub struct Touched {
     pub memory: Memory,
-    pub call: TouchCall,
+    pub call: Option<TouchCall>,
 }
 
 // What a frame gives: the next memory, the calls and the decision.
@@ -92,43 +89,19 @@ fn players_before(memory: Memory, s: Situation, side: Side) -> usize
     counts::players_on_field(last_seen)
 }
 
-fn is_set_play(set_play: SetPlay) -> bool
-    ensures { result ≡ is_set_play set_play }
-{
-    match set_play {
-        SetPlay::NoSetPlay => false,
-        SetPlay::KickOff => true,
-        SetPlay::DirectFreeKick => true,
-        SetPlay::IndirectFreeKick => true,
-        SetPlay::PenaltyKick => true,
-        SetPlay::ThrowIn => true,
-        SetPlay::GoalKick => true,
-        SetPlay::CornerKick => true,
-    }
-}
-
 // Whether a set play has a kicking player.
 fn has_kicking_player(set_play: SetPlay) -> bool
     ensures { result ≡ Spec.has_kicking_player set_play }
 {
-    match set_play {
-        SetPlay::NoSetPlay => false,
-        SetPlay::KickOff => true,
-        SetPlay::DirectFreeKick => false,
-        SetPlay::IndirectFreeKick => false,
-        SetPlay::PenaltyKick => true,
-        SetPlay::ThrowIn => false,
-        SetPlay::GoalKick => false,
-        SetPlay::CornerKick => false,
-    }
+    matches!(set_play, SetPlay::KickOff | SetPlay::PenaltyKick)
 }
 
 // The kicking player, none once a set play has just begun.
-fn kept_kicker(begun: bool, kicking_player: MaybeNumber) -> MaybeNumber
+fn kept_kicker(begun: bool, kicking_player: Option<u8>) -> Option<u8>
     ensures { result ≡ Spec.kept_kicker begun kicking_player }
 {
     if begun {
-        return MaybeNumber::NoNumber;
+        return None;
     }
     kicking_player
 }
@@ -136,17 +109,17 @@ fn kept_kicker(begun: bool, kicking_player: MaybeNumber) -> MaybeNumber
 // The kicking player once Set has just begun: chosen anew for the side that kicks.
 fn kicker_in_set(
     s: Situation,
-    home_margins: [PlayerMargins; 20],
-    away_margins: [PlayerMargins; 20],
-    kicking_player: MaybeNumber,
-) -> MaybeNumber
+    home_margins: [Option<Margins>; 20],
+    away_margins: [Option<Margins>; 20],
+    kicking_player: Option<u8>,
+) -> Option<u8>
     requires { Spec.AreMargins s home_margins away_margins }
     ensures { result ≡ Spec.kicker_in_set s.game.kicking_side s kicking_player }
 {
     let game = s.game;
     let field = s.field;
     let kicking_side = game.kicking_side;
-    let MaybeSide::Of(side) = kicking_side else {
+    let Some(side) = kicking_side else {
         return kicking_player;
     };
     match side {
@@ -167,10 +140,10 @@ fn observed_kicker(
     s: Situation,
     begun: bool,
     set_begun: bool,
-    home_margins: [PlayerMargins; 20],
-    away_margins: [PlayerMargins; 20],
-    kicking_player: MaybeNumber,
-) -> MaybeNumber
+    home_margins: [Option<Margins>; 20],
+    away_margins: [Option<Margins>; 20],
+    kicking_player: Option<u8>,
+) -> Option<u8>
     requires { Spec.AreMargins s home_margins away_margins }
     ensures { result ≡ Spec.observed_kicker s begun set_begun kicking_player }
 {
@@ -192,8 +165,8 @@ fn updated(
     memory: Memory,
     s: Situation,
     events: Events,
-    home_margins: [PlayerMargins; 20],
-    away_margins: [PlayerMargins; 20],
+    home_margins: [Option<Margins>; 20],
+    away_margins: [Option<Margins>; 20],
 ) -> Memory
     requires { Spec.AreMargins s home_margins away_margins }
     ensures { result ≡ Spec.update s events memory }
@@ -203,7 +176,7 @@ fn updated(
     let ball = s.ball;
     let state = game.state;
     let set_play = game.set_play;
-    let on = is_set_play(set_play);
+    let on = set_play != SetPlay::NoSetPlay;
     let begun = events.set_play_begun & on;
     let ended = events.set_play_ended & !on;
     let set_begun = events.set_begun & game::is_set(state);
@@ -246,19 +219,15 @@ fn updated(
 }
 
 // The side that touched the ball last.
-fn contact_by(touch: Touch, last_contact: MaybeSide) -> MaybeSide
+fn contact_by(touch: Option<Touch>, last_contact: Option<Side>) -> Option<Side>
     ensures { result ≡ Spec.contact_by touch last_contact }
 {
-    match touch {
-        Touch::NoTouch => last_contact,
-        Touch::GoesOn(side, _) => MaybeSide::Of(side),
-        Touch::New(side, _) => MaybeSide::Of(side),
-    }
+    touch.map(|t| t.side).or(last_contact)
 }
 
 // The frame as it is judged, by the memory as it is before penalize_players.
 #[tactic(auto, unfolding(crate::specs::Frames::judged_frame))]
-fn judged_frame(s: Situation, touch: Touch, memory: Memory) -> Situation
+fn judged_frame(s: Situation, touch: Option<Touch>, memory: Memory) -> Situation
     ensures { result ≡ Spec.judged_frame s touch memory }
 {
     let field = s.field;
@@ -294,11 +263,11 @@ fn judged_frame(s: Situation, touch: Touch, memory: Memory) -> Situation
 fn penalized(
     judged: Situation,
     grace_over: bool,
-    call: TouchCall,
+    call: Option<TouchCall>,
     decision: Decision,
     memory: Memory,
-    home_margins: [PlayerMargins; 20],
-    away_margins: [PlayerMargins; 20],
+    home_margins: [Option<Margins>; 20],
+    away_margins: [Option<Margins>; 20],
 ) -> Framed
     requires { Spec.AreMargins judged home_margins away_margins }
     ensures { result ≡ Spec.penalize_players judged grace_over call decision memory }
@@ -351,7 +320,7 @@ impl Memory {
     pub fn new() -> Memory
         ensures { result ≡ Spec.new_memory }
     {
-        let none = MaybeAllowance::NoAllowance;
+        let none = None;
         let nothing = Remembered {
             returning: false,
             return_allowance: none,
@@ -360,8 +329,8 @@ impl Memory {
             present: false,
         };
         let players = [nothing; 20];
-        let kicking_player = MaybeNumber::NoNumber;
-        let restart = MaybeRestart::NoRestart;
+        let kicking_player = None;
+        let restart = None;
         let ball = Ball {
             x: 0.0,
             y: 0.0,
@@ -378,40 +347,34 @@ impl Memory {
 
     // A touch of the ball, as ball_contact: against the frame's own game, with the ball and the present players of the last frame. One that goes on changes nothing here.
     #[tactic(auto, unfolding(crate::specs::Frames::ball_contact))]
-    pub fn touch(self, s: Situation, touch: Touch) -> Touched
+    pub fn touch(self, s: Situation, touch: Option<Touch>) -> Touched
         ensures { result ≡ Spec.ball_contact touch s self }
     {
-        match touch {
-            Touch::NoTouch => {
-                let call = TouchCall::NoCall;
-                Touched { memory: self, call }
-            }
-            Touch::GoesOn(_, _) => {
-                let call = TouchCall::NoCall;
-                Touched { memory: self, call }
-            }
-            Touch::New(side, number) => {
-                let players = players_before(self, s, side);
-                let game = s.game;
-                let field = s.field;
-                let home = self.home;
-                let away = self.away;
-                let kicking_player = self.kicking_player;
-                let before = self.restart;
-                let ball = self.ball;
-                let t = restarts::touched(game, field, ball, side, number, players, before);
-                let restart = t.restart;
-                let call = t.call;
-                let memory = Memory {
-                    home,
-                    away,
-                    kicking_player,
-                    restart,
-                    ball,
-                };
-                Touched { memory, call }
-            }
-        }
+        let Some(t) = touch.filter(|t| t.is_new) else {
+            let call = None;
+            return Touched { memory: self, call };
+        };
+        let side = t.side;
+        let number = t.number;
+        let players = players_before(self, s, side);
+        let game = s.game;
+        let field = s.field;
+        let home = self.home;
+        let away = self.away;
+        let kicking_player = self.kicking_player;
+        let before = self.restart;
+        let ball = self.ball;
+        let touched = restarts::touched(game, field, ball, side, number, players, before);
+        let restart = touched.restart;
+        let call = touched.call;
+        let memory = Memory {
+            home,
+            away,
+            kicking_player,
+            restart,
+            ball,
+        };
+        Touched { memory, call }
     }
 
     // A frame after its touch, as update up to penalize_players; what the touch called is handed on.
@@ -422,7 +385,7 @@ impl Memory {
         events: Events,
         xs: &'a [f32],
         ys: &'a [f32],
-        call: TouchCall,
+        call: Option<TouchCall>,
     ) -> Framed
         ensures { result ≡ Spec.frame_of s events xs.now ys.now call self }
     {
@@ -451,14 +414,10 @@ impl Memory {
 }
 
 // Who touches the ball.
-fn toucher(touch: Touch) -> MaybeNumber
+fn toucher(touch: Option<Touch>) -> Option<u8>
     ensures { result ≡ Spec.toucher touch }
 {
-    match touch {
-        Touch::NoTouch => MaybeNumber::NoNumber,
-        Touch::GoesOn(_, number) => MaybeNumber::Number(number),
-        Touch::New(_, number) => MaybeNumber::Number(number),
-    }
+    touch.map(|t| t.number)
 }
 
 // The lower of two refusals, of which 0 is none.
@@ -487,7 +446,7 @@ fn step_refusal<'a>(
 ) -> u8
     ensures { result ≡ Spec.step_refusal memory s events xs.now ys.now }
 {
-    let of_frame = refusals::refusal(s, xs, ys);
+    let of_frame = refusal::number_in(refusals::refusal(s, xs, ys));
     let home = memory.home;
     let away = memory.away;
     let ball = memory.ball;
@@ -504,10 +463,8 @@ fn step_refusal<'a>(
 fn no_calls() -> Calls
     ensures { result ≡ Spec.no_calls }
 {
-    let touch = TouchCall::NoCall;
-    let none = PlayerCall::NoCall;
-    let blank = Called { call: none };
-    let nobody = [blank; 20];
+    let touch = None;
+    let nobody = [None; 20];
     Calls {
         touch,
         home: nobody,

@@ -1,19 +1,14 @@
 -- Questions that are asked of the game's enums. Definitions only.
-use Rattle.std.specs.Prelude.{Bool, true, false, ℕ, eqb}
+use Rattle.std.specs.Prelude.{Bool, true, false, ℕ, eqb, Option, None, Some}
 use Rattle.game.specs.declared.Side.{Side}
 use Rattle.game.specs.declared.Side.TheVariants.{Home, Away}
-use Rattle.game.specs.declared.MaybeSide.{MaybeSide}
-use Rattle.game.specs.declared.MaybeSide.TheVariants.{NoSide, Of}
-use Rattle.game.specs.declared.MaybeNumber.{MaybeNumber}
-use Rattle.game.specs.declared.MaybeNumber.TheVariants.{NoNumber, Number}
 use Rattle.game.specs.declared.Phase.{Phase}
 use Rattle.game.specs.declared.Phase.TheVariants.{FirstHalf, SecondHalf, FirstExtraHalf, SecondExtraHalf, PenaltyShootout}
 use Rattle.game.specs.declared.State.{State}
 use Rattle.game.specs.declared.State.TheVariants.{Initial, Ready, Set, Playing, Finished, Timeout}
 use Rattle.game.specs.declared.Penalty.{Penalty}
 use Rattle.game.specs.declared.Penalty.TheVariants.{NoPenalty, IllegalPositioning, MotionInSet, MotionInStop, LocalGameStuck, IncapableRobot, PickedUp, BallHolding, LeavingTheField, PlayingWithArmsHands, Pushing, Cautioned, SentOff, Substitute}
-use Rattle.game.specs.declared.SeenPose.{SeenPose}
-use Rattle.game.specs.declared.SeenPose.TheVariants.{Absent, Present}
+use Rattle.game.specs.declared.PlayerPose.{PlayerPose}
 
 -- the other side
 abbrev pub opponent : Side → Side
@@ -27,14 +22,14 @@ same_side Away Home = false
 same_side Away Away = true
 
 -- the side is there and is this one
-abbrev pub is_side : MaybeSide → Side → Bool
-is_side NoSide s = false
-is_side (Of t) s = same_side t s
+abbrev pub is_side : Option Side → Side → Bool
+is_side None s = false
+is_side (Some t) s = same_side t s
 
 -- the number is there and is this one
-abbrev pub is_number : MaybeNumber → ℕ → Bool
-is_number NoNumber k = false
-is_number (Number n) k = eqb n k
+abbrev pub is_number : Option ℕ → ℕ → Bool
+is_number None k = false
+is_number (Some n) k = eqb n k
 
 abbrev pub is_shootout : Phase → Bool
 is_shootout FirstHalf = false
@@ -75,6 +70,6 @@ is_unpenalized Cautioned = false
 is_unpenalized SentOff = false
 is_unpenalized Substitute = false
 
-abbrev pub is_present : SeenPose → Bool
-is_present Absent = false
-is_present (Present p) = true
+abbrev pub is_present : Option PlayerPose → Bool
+is_present None = false
+is_present (Some p) = true

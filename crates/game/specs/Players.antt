@@ -1,30 +1,26 @@
 -- The players of a side by their place, which is the number less one. Definitions only.
-use Rattle.std.specs.Prelude.{Bool, false, List, ℕ, zero, suc, ◌+◌, get_or, length, replicate}
+use Rattle.std.specs.Prelude.{Bool, false, List, ℕ, zero, suc, ◌+◌, get_or, length, replicate, Option, None}
 use Rattle.std.specs.Float.{nan}
 use Rattle.game.specs.declared.Side.{Side}
 use Rattle.game.specs.declared.Side.TheVariants.{Home, Away}
-use Rattle.game.specs.declared.SeenPose.TheVariants.{Absent}
-use Rattle.game.specs.declared.ReferencePose.TheVariants.{NoReference}
 use Rattle.game.specs.declared.Penalty.TheVariants.{NoPenalty}
 use Rattle.game.specs.declared.Player.{Player}
 use Rattle.game.specs.declared.Team.{Team}
-use Rattle.game.specs.declared.MaybeMargins.{MaybeMargins}
-use Rattle.game.specs.declared.MaybeMargins.TheVariants.{NoMargins}
-use Rattle.game.specs.declared.PlayerMargins.{PlayerMargins}
 use Rattle.game.specs.declared.PlayerList.{PlayerList}
 use Rattle.game.specs.declared.Situation.{Situation}
 use Rattle.lists.specs.Gather.{flat_to, only_if}
 use Rattle.lists.specs.Put.{fronted, count_if, put_if}
+use Rattle.game.specs.declared.Margins.{Margins}
 
 -- the player past the last one
 abbrev pub nobody : Player
-nobody = record { pose = Absent; reference = NoReference; penalty = NoPenalty; allowance = nan; previously_inside = false }
+nobody = record { pose = None; reference = None; penalty = NoPenalty; allowance = nan; previously_inside = false }
 
 abbrev pub player_at : Team → ℕ → Player
 player_at t i = get_or t.players i nobody
 
-abbrev pub margins_at : List PlayerMargins → ℕ → MaybeMargins
-margins_at ms i = (get_or ms i (record { margins = NoMargins })).margins
+abbrev pub margins_at : List (Option Margins) → ℕ → Option Margins
+margins_at ms i = get_or ms i None
 
 -- the least number of a player and the greatest, as PlayerNumber::MIN and MAX
 abbrev pub min_number : ℕ

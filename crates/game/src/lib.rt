@@ -1,5 +1,5 @@
 // The used types of types.rs and lib.rs: the situation that a decision is asked of, and the decision. Everything goes by value.
-// Each "or none" is an enum whose empty case stands first, so that it is the value past the end of an array.
+// What may be missing is an Option. An enum with a case of its own for nothing has it first, so that it is the value past the end of an array.
 #![tactic(auto)]
 
 ghost use Rattle.std.specs.Prelude.{◌≡◌, false, ◌<◌, get_or};
@@ -8,20 +8,20 @@ ghost use Rattle.game.specs.Game as Spec;
 ghost use Rattle.game.specs.Players as Players;
 
 // The team listed first on the schedule, and the other.
-#[derive(Clone, Copy)]
+#[derive(Clone, Copy, PartialEq, Eq)]
 pub enum Side {
     Home,
     Away,
 }
 
 // Which goal the home team defends. The left goal is at positive x.
-#[derive(Clone, Copy)]
+#[derive(Clone, Copy, PartialEq, Eq)]
 pub enum SideMapping {
     HomeDefendsLeftGoal,
     HomeDefendsRightGoal,
 }
 
-#[derive(Clone, Copy)]
+#[derive(Clone, Copy, PartialEq, Eq)]
 pub enum Phase {
     FirstHalf,
     SecondHalf,
@@ -30,7 +30,7 @@ pub enum Phase {
     PenaltyShootout,
 }
 
-#[derive(Clone, Copy)]
+#[derive(Clone, Copy, PartialEq, Eq)]
 pub enum State {
     Initial,
     Ready,
@@ -40,7 +40,8 @@ pub enum State {
     Timeout,
 }
 
-#[derive(Clone, Copy)]
+// NoSetPlay is a case, and none is no Option, as in types.rs.
+#[derive(Clone, Copy, PartialEq, Eq)]
 pub enum SetPlay {
     NoSetPlay,
     KickOff,
@@ -52,7 +53,8 @@ pub enum SetPlay {
     CornerKick,
 }
 
-#[derive(Clone, Copy)]
+// NoPenalty is a case, and none is no Option, as in types.rs.
+#[derive(Clone, Copy, PartialEq, Eq)]
 pub enum Penalty {
     NoPenalty,
     IllegalPositioning,
@@ -74,18 +76,6 @@ pub enum Penalty {
 pub const MIN: u8 = 1;
 
 pub const MAX: u8 = 20;
-
-#[derive(Clone, Copy)]
-pub enum MaybeSide {
-    NoSide,
-    Of(Side),
-}
-
-#[derive(Clone, Copy)]
-pub enum MaybeNumber {
-    NoNumber,
-    Number(u8),
-}
 
 // The dimensions of the field, in metres.
 #[derive(Clone, Copy)]
@@ -115,25 +105,11 @@ pub struct PlayerPose {
     pub radius: f32,
 }
 
-// The pose that the judges see, where the player is present.
-#[derive(Clone, Copy)]
-pub enum SeenPose {
-    Absent,
-    Present(PlayerPose),
-}
-
-// The pose that motion is measured from, where there is one. It is a type of its own, so that what is seen can change alone.
-#[derive(Clone, Copy)]
-pub enum ReferencePose {
-    NoReference,
-    Reference(PlayerPose),
-}
-
-// What the situation holds of one player.
+// What the situation holds of one player: the pose that the judges see, where it is present, and the pose that motion is measured from, where there is one.
 #[derive(Clone, Copy)]
 pub struct Player {
-    pub pose: SeenPose,
-    pub reference: ReferencePose,
+    pub pose: Option<PlayerPose>,
+    pub reference: Option<PlayerPose>,
     pub penalty: Penalty,
     pub allowance: f32,
     pub previously_inside: bool,
@@ -143,7 +119,7 @@ pub struct Player {
 #[derive(Clone, Copy)]
 pub struct Team {
     pub players: [Player; 20],
-    pub goalkeeper: MaybeNumber,
+    pub goalkeeper: Option<u8>,
 }
 
 // How far a player is inside its own goal area, its own penalty area and the opponents' penalty area; below 0 it is outside.
@@ -154,20 +130,7 @@ pub struct Margins {
     pub opponent_penalty_area: f32,
 }
 
-// The margins of a player, where it is present.
-#[derive(Clone, Copy)]
-pub enum MaybeMargins {
-    NoMargins,
-    Known(Margins),
-}
-
-// An element of a side's list of margins.
-#[derive(Clone, Copy)]
-pub struct PlayerMargins {
-    pub margins: MaybeMargins,
-}
-
-#[derive(Clone, Copy)]
+#[derive(Clone, Copy, PartialEq, Eq)]
 pub enum RestartKind {
     KickOff,
     Indirect,
@@ -181,19 +144,13 @@ pub struct Restart {
     pub kind: RestartKind,
     pub set_play: SetPlay,
     pub side: Side,
-    pub kicker: MaybeNumber,
+    pub kicker: Option<u8>,
     pub kick_x: f32,
     pub kick_y: f32,
     pub other_touch: bool,
     pub kicker_touched_outside_center_circle: bool,
     pub kicker_touched_far_from_kick: bool,
     pub ball_moved_since_kick: bool,
-}
-
-#[derive(Clone, Copy)]
-pub enum MaybeRestart {
-    NoRestart,
-    InEffect(Restart),
 }
 
 // The game without its teams.
@@ -204,7 +161,7 @@ pub struct Game {
     pub phase: Phase,
     pub state: State,
     pub set_play: SetPlay,
-    pub kicking_side: MaybeSide,
+    pub kicking_side: Option<Side>,
 }
 
 #[derive(Clone, Copy)]
@@ -214,7 +171,7 @@ pub struct Ball {
     pub z: f32,
 }
 
-// The placement wish: a named player is a side and a number.
+// The placement wish: a named player is a side and a number. Nothing is one of the six that a word numbers, so that an Option would be no plainer.
 #[derive(Clone, Copy)]
 pub enum Wish {
     Nothing,
@@ -234,8 +191,8 @@ pub struct Situation {
     pub home: Team,
     pub away: Team,
     pub ball: Ball,
-    pub last_contact: MaybeSide,
-    pub restart: MaybeRestart,
+    pub last_contact: Option<Side>,
+    pub restart: Option<Restart>,
     pub invalid_goals_judged: bool,
     pub ball_rested: bool,
     pub wish: Wish,
@@ -249,7 +206,7 @@ pub struct PlayerList {
 }
 
 // The result of checking the position of a player.
-#[derive(Clone, Copy)]
+#[derive(Clone, Copy, PartialEq, Eq)]
 pub enum Positioning {
     Legal,
     Illegal,
@@ -257,26 +214,14 @@ pub enum Positioning {
     InAvoidanceRegion,
 }
 
-// An element of a side's list of verdicts.
-#[derive(Clone, Copy)]
-pub struct PlayerVerdict {
-    pub verdict: Positioning,
-}
-
-// An element of a side's list of reference poses.
-#[derive(Clone, Copy)]
-pub struct PlayerReference {
-    pub reference: ReferencePose,
-}
-
 // The player that is allowed to take the kick.
 #[derive(Clone, Copy)]
-pub enum KickingPlayer {
-    NoKicker,
-    Kicker(Side, u8),
+pub struct KickingPlayer {
+    pub side: Side,
+    pub number: u8,
 }
 
-// What is called, for a side where it is for one.
+// What is called, for a side where it is for one. NoJudgment is a case, since an item of a sheet takes any judgment: a type without it would ask more of who hands one in.
 #[derive(Clone, Copy)]
 pub enum BallJudgment {
     NoJudgment,
@@ -287,7 +232,7 @@ pub enum BallJudgment {
     EndOfPenaltyShot,
 }
 
-// A place for the ball, its x, y and z, or for a player, its x, y and heading.
+// A place for the ball, its x, y and z, or for a player, its x, y and heading. That no place is one of its cases, beside those with floats, is a rule of the project.
 #[derive(Clone, Copy)]
 pub enum Placement {
     NoPlace,
@@ -304,11 +249,11 @@ pub enum Placement {
 // The items that each side has of its own.
 #[derive(Clone, Copy)]
 pub struct SideDecision {
-    pub verdicts: [PlayerVerdict; 20],
+    pub verdicts: [Positioning; 20],
     pub excess: PlayerList,
     pub leaving: PlayerList,
     pub moved: PlayerList,
-    pub references: [PlayerReference; 20],
+    pub references: [Option<PlayerPose>; 20],
 }
 
 // The items of a decision.
@@ -316,7 +261,7 @@ pub struct SideDecision {
 pub struct Decision {
     pub home: SideDecision,
     pub away: SideDecision,
-    pub kicker: KickingPlayer,
+    pub kicker: Option<KickingPlayer>,
     pub ball: BallJudgment,
     pub place: Placement,
 }
@@ -335,90 +280,57 @@ pub fn opponent(side: Side) -> Side
 pub fn side_code(side: Side) -> u32
     ensures { result ≡ side_code side }
 {
-    match side {
-        Side::Home => 0,
-        Side::Away => 1,
-    }
+    side as u32
 }
 
 pub fn same_side(a: Side, b: Side) -> bool
     ensures { result ≡ Spec.same_side a b }
 {
-    match a {
-        Side::Home => match b {
-            Side::Home => true,
-            Side::Away => false,
-        },
-        Side::Away => match b {
-            Side::Home => false,
-            Side::Away => true,
-        },
-    }
+    a == b
 }
 
 // Whether a side that may be missing is there and is this one.
-pub fn is_side(a: MaybeSide, side: Side) -> bool
+pub fn is_side(a: Option<Side>, side: Side) -> bool
     ensures { result ≡ Spec.is_side a side }
 {
-    match a {
-        MaybeSide::NoSide => false,
-        MaybeSide::Of(b) => same_side(b, side),
-    }
+    a == Some(side)
 }
 
 // Whether a number that may be missing is there and is this one.
-pub fn is_number(a: MaybeNumber, number: u8) -> bool
+pub fn is_number(a: Option<u8>, number: u8) -> bool
     ensures { result ≡ Spec.is_number a number }
 {
-    match a {
-        MaybeNumber::NoNumber => false,
-        MaybeNumber::Number(n) => n == number,
-    }
+    a == Some(number)
 }
 
 pub fn is_shootout(phase: Phase) -> bool
     ensures { result ≡ Spec.is_shootout phase }
 {
-    match phase {
-        Phase::PenaltyShootout => true,
-        _ => false,
-    }
+    phase == Phase::PenaltyShootout
 }
 
 pub fn is_set(state: State) -> bool
     ensures { result ≡ Spec.is_set state }
 {
-    match state {
-        State::Set => true,
-        _ => false,
-    }
+    state == State::Set
 }
 
 pub fn is_playing(state: State) -> bool
     ensures { result ≡ Spec.is_playing state }
 {
-    match state {
-        State::Playing => true,
-        _ => false,
-    }
+    state == State::Playing
 }
 
 pub fn is_unpenalized(penalty: Penalty) -> bool
     ensures { result ≡ Spec.is_unpenalized penalty }
 {
-    match penalty {
-        Penalty::NoPenalty => true,
-        _ => false,
-    }
+    penalty == Penalty::NoPenalty
 }
 
-pub fn is_present(pose: SeenPose) -> bool
+pub fn is_present(pose: Option<PlayerPose>) -> bool
     ensures { result ≡ Spec.is_present pose }
 {
-    match pose {
-        SeenPose::Absent => false,
-        SeenPose::Present(_) => true,
-    }
+    pose.is_some()
 }
 
 // The player with the number i + 1. Beyond the last one it is absent, unpenalised, with no reference, an allowance of NaN, and was not inside.
@@ -429,15 +341,11 @@ pub fn player_at(team: Team, i: usize) -> Player
         let a = team.players;
         return a[i];
     }
-    let pose = SeenPose::Absent;
-    let reference = ReferencePose::NoReference;
-    let penalty = Penalty::NoPenalty;
-    let allowance = 0.0 / 0.0;
     Player {
-        pose,
-        reference,
-        penalty,
-        allowance,
+        pose: None,
+        reference: None,
+        penalty: Penalty::NoPenalty,
+        allowance: 0.0 / 0.0,
         previously_inside: false,
     }
 }
@@ -485,11 +393,9 @@ pub fn numbers_where(flags: [bool; 20]) -> PlayerList
 {
     let numbers = [0u8; 20];
     let mut list = PlayerList { count: 0, numbers };
-    let mut i: usize = 0;
-    while i < 20 {
+    for i in 0..20 {
         let number = (i + 1) as u8;
         list = append_if(flags[i], list, number);
-        i += 1;
     }
     list
 }

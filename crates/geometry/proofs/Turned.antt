@@ -16,12 +16,8 @@ use Rattle.floats.proofs.Laws.MinMax.{min_comm_f}
 use Rattle.lists.proofs.Table.{table_same}
 use Rattle.game.specs.Players.{nobody, player_at, player_numbered}
 use Rattle.game.specs.declared.FieldDimensions.{FieldDimensions}
-use Rattle.game.specs.declared.MaybeMargins.{MaybeMargins}
-use Rattle.game.specs.declared.MaybeMargins.TheVariants.{Known}
 use Rattle.game.specs.declared.Player.{Player}
 use Rattle.game.specs.declared.PlayerPose.{PlayerPose}
-use Rattle.game.specs.declared.SeenPose.{SeenPose}
-use Rattle.game.specs.declared.SeenPose.TheVariants.{Absent, Present}
 use Rattle.game.specs.declared.Side.{Side}
 use Rattle.game.specs.declared.Side.TheVariants.{Home, Away}
 use Rattle.game.specs.declared.SideMapping.{SideMapping}
@@ -29,6 +25,7 @@ use Rattle.game.specs.declared.SideMapping.TheVariants.{HomeDefendsLeftGoal, Hom
 use Rattle.game.specs.declared.Team.{Team}
 use Rattle.geometry.specs.Geometry.{side_to_sign, strip_margin, margins_of, seen_margins, player_margins, compute_margins, carpet_excess, seen_leaving, is_leaving_the_field, is_on_own_goal_line}
 use Rattle.geometry.specs.Turned.{signed, changed_pose, changed_seen, changed_player, changed_team, changed_ends}
+use Rattle.std.specs.Prelude.{Option, None, Some}
 
 -- ---- signs, for whatever is measured by them
 -- an x in team coordinates
@@ -85,9 +82,9 @@ unfolding margins_of
 margins_changed a b p f s =
     cc (team_changed a s p.x, strip_changed a b f.goal_area_width p, strip_changed a b f.penalty_area_width p)
 
-pub seen_margins_changed : (a b : Bool) (p : SeenPose) (f : FieldDimensions) (s : Float) → seen_margins (changed_seen a b p) f (signed a s) ≡ seen_margins p f s
-seen_margins_changed a b Absent f s = refl
-seen_margins_changed a b (Present p) f s = ap Known (margins_changed a b p f s)
+pub seen_margins_changed : (a b : Bool) (p : Option PlayerPose) (f : FieldDimensions) (s : Float) → seen_margins (changed_seen a b p) f (signed a s) ≡ seen_margins p f s
+seen_margins_changed a b None f s = refl
+seen_margins_changed a b (Some p) f s = ap Some (margins_changed a b p f s)
 
 -- the player at a place; past the last one it is `nobody`, who does not change
 pub player_at_changed : (a b : Bool) (t : Team) (i : ℕ) → player_at (changed_team a b t) i ≡ changed_player a b (player_at t i)
@@ -104,16 +101,15 @@ compute_margins_changed a b t f s = table_same 20 (λ i. player_margins (player_
   where
     same : (i : ℕ) → player_margins (player_at (changed_team a b t) i) f (signed a s) ≡ player_margins (player_at t i) f s
     same i =
-        ap (λ (q : Player). player_margins q f (signed a s)) (player_at_changed a b t i)
-        ∙ ap (λ (m : MaybeMargins). record { margins = m }) (seen_margins_changed a b (player_at t i).pose f s)
+        ap (λ (q : Player). player_margins q f (signed a s)) (player_at_changed a b t i) ∙ seen_margins_changed a b (player_at t i).pose f s
 
 -- ---- where a player is
 pub carpet_changed : (a b : Bool) (p : PlayerPose) (f : FieldDimensions) → carpet_excess (changed_pose a b p) f ≡ carpet_excess p f
 carpet_changed a b p f = cc (abs_changed a p.x, abs_changed b p.y)
 
-seen_leaving_changed : (a b : Bool) (p : SeenPose) (f : FieldDimensions) (allowance : Float) → seen_leaving (changed_seen a b p) f allowance ≡ seen_leaving p f allowance
-seen_leaving_changed a b Absent f allowance = refl
-seen_leaving_changed a b (Present p) f allowance = cc (carpet_changed a b p f)
+seen_leaving_changed : (a b : Bool) (p : Option PlayerPose) (f : FieldDimensions) (allowance : Float) → seen_leaving (changed_seen a b p) f allowance ≡ seen_leaving p f allowance
+seen_leaving_changed a b None f allowance = refl
+seen_leaving_changed a b (Some p) f allowance = cc (carpet_changed a b p f)
 
 pub leaving_changed : (a b : Bool) (q : Player) (f : FieldDimensions) (allowance : Float) → is_leaving_the_field (changed_player a b q) f allowance ≡ is_leaving_the_field q f allowance
 leaving_changed a b q f allowance = cc (seen_leaving_changed a b q.pose f allowance)

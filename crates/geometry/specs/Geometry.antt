@@ -1,5 +1,5 @@
 -- Where a player stands, by the dimensions of the field: binary32, each operation rounded once. Definitions only.
-use Rattle.std.specs.Prelude.{Bool, false, ◌&&◌, ◌||◌, List, Float}
+use Rattle.std.specs.Prelude.{Bool, false, ◌&&◌, ◌||◌, List, Float, Option, None, Some}
 use Rattle.std.specs.Float.Ieee.{neg, lt, le}
 use Rattle.floats.specs.Arithmetic.{◌+₃₂◌, ◌-₃₂◌, ◌*₃₂◌, zero32, half, one, two, pi}
 use Rattle.floats.specs.Leaves.{abs, minimum_number, maximum_number, rem_euclid}
@@ -12,14 +12,9 @@ use Rattle.game.specs.declared.SideMapping.{SideMapping}
 use Rattle.game.specs.declared.SideMapping.TheVariants.{HomeDefendsLeftGoal, HomeDefendsRightGoal}
 use Rattle.game.specs.declared.FieldDimensions.{FieldDimensions}
 use Rattle.game.specs.declared.PlayerPose.{PlayerPose}
-use Rattle.game.specs.declared.SeenPose.{SeenPose}
-use Rattle.game.specs.declared.SeenPose.TheVariants.{Absent, Present}
 use Rattle.game.specs.declared.Player.{Player}
 use Rattle.game.specs.declared.Team.{Team}
 use Rattle.game.specs.declared.Margins.{Margins}
-use Rattle.game.specs.declared.MaybeMargins.{MaybeMargins}
-use Rattle.game.specs.declared.MaybeMargins.TheVariants.{NoMargins, Known}
-use Rattle.game.specs.declared.PlayerMargins.{PlayerMargins}
 
 -- the factor between global x and a team's x, in which the own goal is at negative x; the left goal is at positive global x
 abbrev pub side_to_sign : Side → SideMapping → Float
@@ -58,16 +53,16 @@ margins_of p f sign =
     }
 
 -- the margins of a pose, none where there is no pose
-abbrev pub seen_margins : SeenPose → FieldDimensions → Float → MaybeMargins
-seen_margins Absent f sign = NoMargins
-seen_margins (Present p) f sign = Known (margins_of p f sign)
+abbrev pub seen_margins : Option PlayerPose → FieldDimensions → Float → Option Margins
+seen_margins None f sign = None
+seen_margins (Some p) f sign = Some (margins_of p f sign)
 
 -- the margins of a player
-abbrev pub player_margins : Player → FieldDimensions → Float → PlayerMargins
-player_margins p f sign = record { margins = seen_margins p.pose f sign }
+abbrev pub player_margins : Player → FieldDimensions → Float → Option Margins
+player_margins p f sign = seen_margins p.pose f sign
 
 -- the margins of a team's players by their places
-unfoldable pub compute_margins : Team → FieldDimensions → Float → List PlayerMargins
+unfoldable pub compute_margins : Team → FieldDimensions → Float → List (Option Margins)
 compute_margins t f sign = table 20 (λ i. player_margins (player_at t i) f sign)
 
 -- no part of the player is on the field of play
@@ -80,9 +75,9 @@ carpet_excess p f =
     maximum_number (abs p.x -₃₂ (f.length *₃₂ half +₃₂ f.border_strip_width)) (abs p.y -₃₂ (f.width *₃₂ half +₃₂ f.border_strip_width)) -₃₂ p.radius
 
 -- the pose is there, and its near edge is beyond the carpet's edge by more than the allowance
-abbrev pub seen_leaving : SeenPose → FieldDimensions → Float → Bool
-seen_leaving Absent f allowance = false
-seen_leaving (Present p) f allowance = lt allowance (carpet_excess p f)
+abbrev pub seen_leaving : Option PlayerPose → FieldDimensions → Float → Bool
+seen_leaving None f allowance = false
+seen_leaving (Some p) f allowance = lt allowance (carpet_excess p f)
 
 -- an unpenalised player whose near edge is off the carpet by more than the allowance
 abbrev pub is_leaving_the_field : Player → FieldDimensions → Float → Bool

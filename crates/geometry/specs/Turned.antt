@@ -1,15 +1,11 @@
 -- The field turned half round, and its mirror image in y, as one change: x changes its sign where a is true, and y where b is; the signs of zeros too.
 -- Where x changes its sign, each side defends the other goal. Definitions only.
-use Rattle.std.specs.Prelude.{Bool, true, false, map, Float}
+use Rattle.std.specs.Prelude.{Bool, true, false, map, Float, Option, None, Some}
 use Rattle.std.specs.Float.Ieee.{neg}
 use Rattle.game.specs.declared.Ball.{Ball}
 use Rattle.game.specs.declared.Game.{Game}
 use Rattle.game.specs.declared.Player.{Player}
 use Rattle.game.specs.declared.PlayerPose.{PlayerPose}
-use Rattle.game.specs.declared.ReferencePose.{ReferencePose}
-use Rattle.game.specs.declared.ReferencePose.TheVariants.{NoReference, Reference}
-use Rattle.game.specs.declared.SeenPose.{SeenPose}
-use Rattle.game.specs.declared.SeenPose.TheVariants.{Absent, Present}
 use Rattle.game.specs.declared.SideMapping.{SideMapping}
 use Rattle.game.specs.declared.SideMapping.TheVariants.{HomeDefendsLeftGoal, HomeDefendsRightGoal}
 use Rattle.game.specs.declared.Team.{Team}
@@ -24,14 +20,14 @@ abbrev pub changed_pose : Bool → Bool → PlayerPose → PlayerPose
 changed_pose a b p = record { x = signed a p.x; y = signed b p.y; theta = p.theta; radius = p.radius }
 
 -- a pose that may be missing
-abbrev pub changed_seen : Bool → Bool → SeenPose → SeenPose
-changed_seen a b Absent = Absent
-changed_seen a b (Present p) = Present (changed_pose a b p)
+abbrev pub changed_seen : Bool → Bool → Option PlayerPose → Option PlayerPose
+changed_seen a b None = None
+changed_seen a b (Some p) = Some (changed_pose a b p)
 
 -- a reference pose that may be missing
-abbrev pub changed_reference : Bool → Bool → ReferencePose → ReferencePose
-changed_reference a b NoReference = NoReference
-changed_reference a b (Reference p) = Reference (changed_pose a b p)
+abbrev pub changed_reference : Bool → Bool → Option PlayerPose → Option PlayerPose
+changed_reference a b None = None
+changed_reference a b (Some p) = Some (changed_pose a b p)
 
 -- both poses of a player
 abbrev pub changed_player : Bool → Bool → Player → Player

@@ -5,24 +5,16 @@ ghost use Rattle.std.specs.Prelude.{◌≡◌};
 ghost use Rattle.geometry.specs.Geometry as Spec;
 
 use floats::PI;
-use game::{
-    FieldDimensions, Margins, MaybeMargins, Player, PlayerMargins, PlayerPose, SeenPose, Side,
-    SideMapping, Team,
-};
+use game::{FieldDimensions, Margins, Player, PlayerPose, Side, SideMapping, Team};
 
 // The factor between global x and a team's x, in which the own goal is at negative x. The left goal is at positive global x.
 pub fn side_to_sign(side: Side, side_mapping: SideMapping) -> f32
     ensures { result ≡ Spec.side_to_sign side side_mapping }
 {
-    match side {
-        Side::Home => match side_mapping {
-            SideMapping::HomeDefendsLeftGoal => -1.0,
-            SideMapping::HomeDefendsRightGoal => 1.0,
-        },
-        Side::Away => match side_mapping {
-            SideMapping::HomeDefendsLeftGoal => 1.0,
-            SideMapping::HomeDefendsRightGoal => -1.0,
-        },
+    if (side == Side::Home) == (side_mapping == SideMapping::HomeDefendsLeftGoal) {
+        -1.0
+    } else {
+        1.0
     }
 }
 
@@ -63,36 +55,20 @@ pub fn margins_of(pose: PlayerPose, field: FieldDimensions, sign: f32) -> Margin
 }
 
 // The margins of a player, none where it is absent.
-fn player_margins(player: Player, field: FieldDimensions, sign: f32) -> PlayerMargins
+fn player_margins(player: Player, field: FieldDimensions, sign: f32) -> Option<Margins>
     ensures { result ≡ Spec.player_margins player field sign }
 {
-    let pose = player.pose;
-    match pose {
-        SeenPose::Absent => {
-            let margins = MaybeMargins::NoMargins;
-            PlayerMargins { margins }
-        }
-        SeenPose::Present(p) => {
-            let known = margins_of(p, field, sign);
-            let margins = MaybeMargins::Known(known);
-            PlayerMargins { margins }
-        }
-    }
+    player.pose.map(|pose| margins_of(pose, field, sign))
 }
 
 // The margins of a side's players, none for an absent one.
-pub fn compute_margins(team: Team, field: FieldDimensions, sign: f32) -> [PlayerMargins; 20]
+pub fn compute_margins(team: Team, field: FieldDimensions, sign: f32) -> [Option<Margins>; 20]
     ensures { result ≡ Spec.compute_margins team field sign }
 {
     let players = team.players;
-    let none = MaybeMargins::NoMargins;
-    let blank = PlayerMargins { margins: none };
-    let mut out = [blank; 20];
-    let mut i: usize = 0;
-    while i < 20 {
-        let player = players[i];
-        out[i] = player_margins(player, field, sign);
-        i += 1;
+    let mut out = [None; 20];
+    for i in 0..20 {
+        out[i] = player_margins(players[i], field, sign);
     }
     out
 }
@@ -124,8 +100,8 @@ pub fn is_leaving_the_field(player: Player, field: FieldDimensions, allowance: f
     let penalty = player.penalty;
     let pose = player.pose;
     match pose {
-        SeenPose::Absent => false,
-        SeenPose::Present(p) => {
+        None => false,
+        Some(p) => {
             let unpenalized = game::is_unpenalized(penalty);
             let excess = carpet_excess(p, field);
             unpenalized & (excess > allowance)

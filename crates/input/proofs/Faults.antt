@@ -7,14 +7,15 @@ use native.Mathlib.Omega.{arith}
 use borrow.Author.Tests.{ltb-true, ltb-false, leb-false}
 use lib.Dec.{leb, ltb}
 use lib.ListN.{length, take, get_or}
+use Rattle.std.specs.Prelude.{Result, Ok, Err}
 use Rattle.columns.specs.Layout.{word_count}
 use Rattle.columns.specs.Columns.{words_within}
-use Rattle.numbers.specs.declared.Reading.{Reading}
-use Rattle.numbers.specs.declared.Reading.TheVariants as Numbers
+use Rattle.numbers.specs.declared.Unread.{Unread}
+use Rattle.numbers.specs.declared.Unread.TheVariants as Numbers
 use Rattle.numbers.specs.Numbers.{numbers_of, reading_of, stored}
 use Rattle.numbers.proofs.Count.{read_count}
-use Rattle.input.specs.declared.Input.{Input}
-use Rattle.input.specs.declared.Input.TheVariants.{Read, Wrong}
+use Rattle.input.specs.declared.Lists.{Lists}
+use Rattle.input.specs.declared.Wrong.{Wrong}
 use Rattle.input.specs.declared.Fault.{Fault}
 use Rattle.input.specs.declared.Fault.TheVariants.{NotANumber, TooLarge, Outside, LongList, Missing, Extra}
 use Rattle.input.specs.Input.{most_places, count_x, count_y, numbers_for, most_numbers, after_counts, after_x, after_words, with_words, laid_out, input_of}
@@ -30,16 +31,16 @@ is_told Missing = false
 is_told Extra = false
 
 -- of n numbers, in a buffer that has room for the most
-abbrev Reached : ℕ → Input → Type 0
-Reached n (Read nx ny) = 0 ≤ n
-Reached n (Wrong i f) = (i ≤ n) × (is_told f ≡ true → (i < n) × (i < most_numbers))
+abbrev Reached : ℕ → Result Lists Wrong → Type 0
+Reached n (Ok lists) = 0 ≤ n
+Reached n (Err w) = (w.place ≤ n) × (is_told w.fault ≡ true → (w.place < n) × (w.place < most_numbers))
 
 -- a number that is not told
 untold : (i n : ℕ) → i ≤ n → (false ≡ true → (i < n) × (i < most_numbers))
 untold i n h e = let z : ◌≡◌ {A = ℕ} 0 1 = cc in absurd (omega arith)
 
 -- by a test
-reached_if : (n : ℕ) (b : Bool) (x y : Input) → (b ≡ true → Reached n x) → (b ≡ false → Reached n y) → Reached n (cond b x y)
+reached_if : (n : ℕ) (b : Bool) (x y : Result Lists Wrong) → (b ≡ true → Reached n x) → (b ≡ false → Reached n y) → Reached n (cond b x y)
 reached_if n true x y s t = s refl
 reached_if n false x y s t = t refl
 
@@ -70,21 +71,21 @@ module _ (ns : List ℕ) (n : ℕ) where
   unfolding with_words
   reached_all w = reached_if n (ltb w (min n word_count)) _ _ (λ e. let low = ltb-true w (min n word_count) e in (omega arith, λ t. (omega arith, omega arith))) (λ e. reached_words)
 
-reached_read : (text : List ℕ) (g : Reading) → reading_of text ≡ g → Reached (length (numbers_of text)) (laid_out g (numbers_of text))
-reached_read text (Numbers.Read n) e = rw (read_count text (Numbers.Read n) e) (reached_all (numbers_of text) n (words_within (take word_count (numbers_of text))))
-reached_read text (Numbers.NotANumber i) e = let same = read_count text (Numbers.NotANumber i) e in (omega arith, untold i _ (omega arith))
-reached_read text (Numbers.TooLarge i) e = let same = read_count text (Numbers.TooLarge i) e in (omega arith, untold i _ (omega arith))
+reached_read : (text : List ℕ) (g : Result ℕ Unread) → reading_of text ≡ g → Reached (length (numbers_of text)) (laid_out g (numbers_of text))
+reached_read text (Ok n) e = rw (read_count text (Ok n) e) (reached_all (numbers_of text) n (words_within (take word_count (numbers_of text))))
+reached_read text (Err (Numbers.NotANumber i)) e = let same = read_count text (Err (Numbers.NotANumber i)) e in (omega arith, untold i _ (omega arith))
+reached_read text (Err (Numbers.TooLarge i)) e = let same = read_count text (Err (Numbers.TooLarge i)) e in (omega arith, untold i _ (omega arith))
 
 -- the number of earlier x and the number at the fault are among the stored numbers as they are in the text
 pub record Known (ms ns : List ℕ) (i : ℕ) (f : Fault) : Type 0 where
   pub count : count_x < i → get_or ms count_x 0 ≡ get_or ns count_x 0
   pub value : is_told f ≡ true → get_or ms i 0 ≡ get_or ns i 0
 
-pub fault_known : (text buffer : List ℕ) (i : ℕ) (f : Fault) → length buffer ≡ most_numbers → input_of text ≡ Wrong i f → Known (stored (numbers_of text) buffer) (numbers_of text) i f
+pub fault_known : (text buffer : List ℕ) (w : Wrong) → length buffer ≡ most_numbers → input_of text ≡ Err w → Known (stored (numbers_of text) buffer) (numbers_of text) w.place w.fault
 unfolding input_of
-fault_known text buffer i f l e =
-    let r : Reached (length (numbers_of text)) (Wrong i f) = rw e at (reached_read text (reading_of text) refl) in
+fault_known text buffer w l e =
+    let r : Reached (length (numbers_of text)) (Err w) = rw e at (reached_read text (reading_of text) refl) in
     record {
       count = λ h. stored_at (numbers_of text) buffer count_x (omega (arith, r.0)) (omega arith);
-      value = λ t. stored_at (numbers_of text) buffer i (r.1 t).0 (omega (arith, (r.1 t).1));
+      value = λ t. stored_at (numbers_of text) buffer w.place (r.1 t).0 (omega (arith, (r.1 t).1));
     }

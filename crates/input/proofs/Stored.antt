@@ -8,17 +8,17 @@ use borrow.Author.Tests.{ltb-false, leb-true, leb-false}
 use lib.Dec.{ltb, leb}
 use lib.ListN.{length, take, get_or, length-take, get_or-append}
 use lib.Seq.{take_all, take-append-le, get_or-take, take-take}
+use Rattle.std.specs.Prelude.{Result, Ok}
 use Rattle.lists.specs.Put.{fronted}
 use Rattle.columns.specs.Layout.{word_count}
 use Rattle.columns.specs.Columns.{words_within}
-use Rattle.numbers.specs.declared.Reading.{Reading}
-use Rattle.numbers.specs.declared.Reading.TheVariants as Numbers
+use Rattle.numbers.specs.declared.Unread.{Unread}
 use Rattle.numbers.specs.Numbers.{numbers_of, reading_of, stored}
 use Rattle.numbers.proofs.Count.{read_count}
-use Rattle.input.specs.declared.Input.{Input}
-use Rattle.input.specs.declared.Input.TheVariants.{Wrong}
+use Rattle.input.specs.declared.Lists.{Lists}
+use Rattle.input.specs.declared.Wrong.{Wrong}
 use Rattle.input.specs.declared.Fault.TheVariants.{LongList, Missing, Outside}
-use Rattle.input.specs.Input.{most_places, count_x, count_y, most_numbers, after_counts, after_x, after_words, with_words, laid_out, input_of}
+use Rattle.input.specs.Input.{wrong_at, most_places, count_x, count_y, most_numbers, after_counts, after_x, after_words, with_words, laid_out, input_of}
 
 -- ---- a number, and a front
 module _ (ns buffer : List ℕ) where
@@ -39,10 +39,10 @@ module _ (ms ns : List ℕ) (n : ℕ) (same : (k : ℕ) → k < n → k < most_n
   unfolding after_x
   same_x nx few = go (leb n (count_y nx)) refl
     where
-      past : ℕ → Input
-      past ny = cond (ltb most_places ny) (Wrong (count_y nx) LongList) (after_counts n nx ny)
+      past : ℕ → Result Lists Wrong
+      past ny = cond (ltb most_places ny) (wrong_at (count_y nx) LongList) (after_counts n nx ny)
 
-      go : (b : Bool) → leb n (count_y nx) ≡ b → cond b (Wrong n Missing) (past (get_or ms (count_y nx) 0)) ≡ cond b (Wrong n Missing) (past (get_or ns (count_y nx) 0))
+      go : (b : Bool) → leb n (count_y nx) ≡ b → cond b (wrong_at n Missing) (past (get_or ms (count_y nx) 0)) ≡ cond b (wrong_at n Missing) (past (get_or ns (count_y nx) 0))
       go true e = refl
       go false e = ap past (same (count_y nx) (omega (arith, leb-false n (count_y nx) e)) (omega arith))
 
@@ -50,20 +50,20 @@ module _ (ms ns : List ℕ) (n : ℕ) (same : (k : ℕ) → k < n → k < most_n
   unfolding after_words
   same_words = go (leb n count_x) refl
     where
-      past : List ℕ → ℕ → Input
-      past l nx = cond (ltb most_places nx) (Wrong count_x LongList) (after_x l n nx)
+      past : List ℕ → ℕ → Result Lists Wrong
+      past l nx = cond (ltb most_places nx) (wrong_at count_x LongList) (after_x l n nx)
 
-      few : (nx : ℕ) (b : Bool) → ltb most_places nx ≡ b → cond b (Wrong count_x LongList) (after_x ms n nx) ≡ cond b (Wrong count_x LongList) (after_x ns n nx)
+      few : (nx : ℕ) (b : Bool) → ltb most_places nx ≡ b → cond b (wrong_at count_x LongList) (after_x ms n nx) ≡ cond b (wrong_at count_x LongList) (after_x ns n nx)
       few nx true e = refl
       few nx false e = same_x nx (ltb-false most_places nx e)
 
-      go : (b : Bool) → leb n count_x ≡ b → cond b (Wrong n Missing) (past ms (get_or ms count_x 0)) ≡ cond b (Wrong n Missing) (past ns (get_or ns count_x 0))
+      go : (b : Bool) → leb n count_x ≡ b → cond b (wrong_at n Missing) (past ms (get_or ms count_x 0)) ≡ cond b (wrong_at n Missing) (past ns (get_or ns count_x 0))
       go true e = refl
       go false e = ap (past ms) (same count_x (omega (arith, leb-false n count_x e)) (omega arith)) ∙ few (get_or ns count_x 0) (ltb most_places (get_or ns count_x 0)) refl
 
   pub same_all : (w : ℕ) → with_words ms n w ≡ with_words ns n w
   unfolding with_words
-  same_all w = ap (cond (ltb w (min n word_count)) (Wrong w Outside)) same_words
+  same_all w = ap (cond (ltb w (min n word_count)) (wrong_at w Outside)) same_words
 
 -- ---- the whole
 -- the words that are there
@@ -81,10 +81,10 @@ stored_laid_out ns buffer n e l =
     ∙ same_all (stored ns buffer) ns n (λ k a b. stored_at ns buffer k (omega arith) (omega arith)) _
 
 -- the answer for the numbers ms that were read
-pub input_of_read : (text buffer ms : List ℕ) (n : ℕ) (r : Input) → length buffer ≡ most_numbers → reading_of text ≡ Numbers.Read n → ms ≡ stored (numbers_of text) buffer
+pub input_of_read : (text buffer ms : List ℕ) (n : ℕ) (r : Result Lists Wrong) → length buffer ≡ most_numbers → reading_of text ≡ Ok n → ms ≡ stored (numbers_of text) buffer
     → r ≡ with_words ms n (words_within (take (min n word_count) ms)) → r ≡ input_of text
 unfolding input_of
 input_of_read text buffer ms n r l e em er =
     er ∙ ap (λ (l : List ℕ). with_words l n (words_within (take (min n word_count) l))) em
-    ∙ stored_laid_out (numbers_of text) buffer n (read_count text (Numbers.Read n) e) l
-    ∙ ap (λ (g : Reading). laid_out g (numbers_of text)) (sym e)
+    ∙ stored_laid_out (numbers_of text) buffer n (read_count text (Ok n) e) l
+    ∙ ap (λ (g : Result ℕ Unread). laid_out g (numbers_of text)) (sym e)

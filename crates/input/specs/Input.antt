@@ -1,17 +1,18 @@
 -- The numbers of a text as a situation, or what is wrong with them: the words, the number of earlier x and their patterns, the number of earlier y and theirs. Definitions only.
 -- ns are the numbers and n is how many they are. A fault stands at a number, counted from 0.
-use Rattle.std.specs.Prelude.{cond, List, ℕ, ◌+◌, ◌*◌, min, leb, ltb, Float, length, take, get_or}
+use Rattle.std.specs.Prelude.{cond, Result, Ok, Err, List, ℕ, ◌+◌, ◌*◌, min, leb, ltb, Float, length, take, get_or}
 use Rattle.std.specs.Float.{binary32}
 use Rattle.std.specs.Float.Ieee.{of_bits}
 use Rattle.lists.specs.Put.{fronted}
 use Rattle.lists.specs.Table.{table}
 use Rattle.columns.specs.Layout.{word_count}
 use Rattle.columns.specs.Columns.{words_within}
-use Rattle.numbers.specs.declared.Reading.{Reading}
-use Rattle.numbers.specs.declared.Reading.TheVariants as Numbers
+use Rattle.numbers.specs.declared.Unread.{Unread}
+use Rattle.numbers.specs.declared.Unread.TheVariants as Numbers
 use Rattle.numbers.specs.Numbers.{numbers_of, reading_of}
-use Rattle.input.specs.declared.Input.{Input}
-use Rattle.input.specs.declared.Input.TheVariants.{Read, Wrong}
+use Rattle.input.specs.declared.Lists.{Lists}
+use Rattle.input.specs.declared.Wrong.{Wrong}
+use Rattle.input.specs.declared.Fault.{Fault}
 use Rattle.input.specs.declared.Fault.TheVariants.{NotANumber, TooLarge, Outside, LongList, Missing, Extra}
 
 -- the most earlier places of a list
@@ -39,30 +40,37 @@ numbers_for nx ny = first_y + nx + ny
 abbrev pub most_numbers : ℕ
 most_numbers = first_y + 2 * most_places
 
+-- the answer where there are nx earlier x and ny earlier y, and where something is wrong with the number i
+abbrev pub lists_of : ℕ → ℕ → Result Lists Wrong
+lists_of nx ny = Ok (record { xs = nx; ys = ny })
+
+abbrev pub wrong_at : ℕ → Fault → Result Lists Wrong
+wrong_at i fault = Err (record { place = i; fault = fault })
+
 -- with nx earlier x and ny earlier y there must be just so many numbers
-unfoldable pub after_counts : ℕ → ℕ → ℕ → Input
-after_counts n nx ny = cond (ltb n (numbers_for nx ny)) (Wrong n Missing) (cond (ltb (numbers_for nx ny) n) (Wrong (numbers_for nx ny) Extra) (Read nx ny))
+unfoldable pub after_counts : ℕ → ℕ → ℕ → Result Lists Wrong
+after_counts n nx ny = cond (ltb n (numbers_for nx ny)) (wrong_at n Missing) (cond (ltb (numbers_for nx ny) n) (wrong_at (numbers_for nx ny) Extra) (lists_of nx ny))
 
 -- with nx earlier x: the number after these is that of the earlier y
-unfoldable pub after_x : List ℕ → ℕ → ℕ → Input
-after_x ns n nx = cond (leb n (count_y nx)) (Wrong n Missing) (cond (ltb most_places (get_or ns (count_y nx) 0)) (Wrong (count_y nx) LongList) (after_counts n nx (get_or ns (count_y nx) 0)))
+unfoldable pub after_x : List ℕ → ℕ → ℕ → Result Lists Wrong
+after_x ns n nx = cond (leb n (count_y nx)) (wrong_at n Missing) (cond (ltb most_places (get_or ns (count_y nx) 0)) (wrong_at (count_y nx) LongList) (after_counts n nx (get_or ns (count_y nx) 0)))
 
 -- the number after the words is that of the earlier x
-unfoldable pub after_words : List ℕ → ℕ → Input
-after_words ns n = cond (leb n count_x) (Wrong n Missing) (cond (ltb most_places (get_or ns count_x 0)) (Wrong count_x LongList) (after_x ns n (get_or ns count_x 0)))
+unfoldable pub after_words : List ℕ → ℕ → Result Lists Wrong
+after_words ns n = cond (leb n count_x) (wrong_at n Missing) (cond (ltb most_places (get_or ns count_x 0)) (wrong_at count_x LongList) (after_x ns n (get_or ns count_x 0)))
 
 -- w words are within their columns before the first that is not; these must be all the words that are there
-unfoldable pub with_words : List ℕ → ℕ → ℕ → Input
-with_words ns n w = cond (ltb w (min n word_count)) (Wrong w Outside) (after_words ns n)
+unfoldable pub with_words : List ℕ → ℕ → ℕ → Result Lists Wrong
+with_words ns n w = cond (ltb w (min n word_count)) (wrong_at w Outside) (after_words ns n)
 
 -- what a text is by its reading and its numbers; of a whole reading, the words come first
-abbrev pub laid_out : Reading → List ℕ → Input
-laid_out (Numbers.Read n) ns = with_words ns n (words_within (take word_count ns))
-laid_out (Numbers.NotANumber i) ns = Wrong i NotANumber
-laid_out (Numbers.TooLarge i) ns = Wrong i TooLarge
+abbrev pub laid_out : Result ℕ Unread → List ℕ → Result Lists Wrong
+laid_out (Ok n) ns = with_words ns n (words_within (take word_count ns))
+laid_out (Err (Numbers.NotANumber i)) ns = wrong_at i NotANumber
+laid_out (Err (Numbers.TooLarge i)) ns = wrong_at i TooLarge
 
 -- how many earlier x and earlier y a text has, or what is wrong with it
-unfoldable pub input_of : List ℕ → Input
+unfoldable pub input_of : List ℕ → Result Lists Wrong
 input_of text = laid_out (reading_of text) (numbers_of text)
 
 -- the places with the patterns' floats at their front, as many as both have

@@ -8,10 +8,10 @@ ghost use Rattle.numbers.specs.Numbers.{numbers_of, stored};
 ghost use Rattle.input.specs.Input as Spec;
 
 use columns::layout::WORDS;
-use numbers::Reading;
+use numbers::Unread;
 
 // What is wrong with a number of an input.
-#[derive(Clone, Copy)]
+#[derive(Clone, Copy, PartialEq, Eq)]
 pub enum Fault {
     // Its field has a byte that is no digit, or is of 2^32 or more.
     NotANumber,
@@ -25,11 +25,18 @@ pub enum Fault {
     Extra,
 }
 
-// How many earlier x and earlier y an input has; or the number, counted from 0, with which something is wrong.
+// How many earlier x and earlier y an input has.
 #[derive(Clone, Copy)]
-pub enum Input {
-    Read(usize, usize),
-    Wrong(usize, Fault),
+pub struct Lists {
+    pub xs: usize,
+    pub ys: usize,
+}
+
+// The number, counted from 0, with which something is wrong, and what.
+#[derive(Clone, Copy)]
+pub struct Wrong {
+    pub place: usize,
+    pub fault: Fault,
 }
 
 // The most earlier places of a list.
@@ -43,70 +50,81 @@ pub const FIRST_Y: usize = WORDS + 2;
 // The most numbers that an input has: the words, two counts and two lists.
 pub const NUMBERS: usize = FIRST_Y + 2 * PLACES;
 
-fn lesser(a: usize, b: usize) -> usize
-    ensures { result ≡ min a b }
-{
-    if a < b {
-        return a;
-    }
-    b
-}
-
-fn count_of(number: u32) -> usize
-    ensures { result ≡ number }
-{
-    number as usize
-}
-
 // The answer for n numbers: those of the words that are there must be within their columns, the number after the words is that of the earlier x, and the one after these
 // that of the earlier y.
-fn laid_out(numbers: &[u32], n: usize) -> Input
+fn laid_out(numbers: &[u32], n: usize) -> Result<Lists, Wrong>
     requires { length numbers.now ≡ Spec.most_numbers }
     ensures { result ≡ Spec.with_words numbers.now n (words_within (take (min n word_count) numbers.now)) }
 {
-    let there = lesser(n, WORDS);
+    let there = n.min(WORDS);
     let w = columns::words_within(&numbers[..there]);
     if w < there {
-        return Input::Wrong(w, Fault::Outside);
+        return Err(Wrong {
+            place: w,
+            fault: Fault::Outside,
+        });
     }
     if n <= WORDS {
-        return Input::Wrong(n, Fault::Missing);
+        return Err(Wrong {
+            place: n,
+            fault: Fault::Missing,
+        });
     }
-    let nx = count_of(numbers[WORDS]);
+    let nx = numbers[WORDS] as usize;
     let long_x = PLACES < nx;
     if long_x {
-        return Input::Wrong(WORDS, Fault::LongList);
+        return Err(Wrong {
+            place: WORDS,
+            fault: Fault::LongList,
+        });
     }
     let at = FIRST_X + nx;
     if n <= at {
-        return Input::Wrong(n, Fault::Missing);
+        return Err(Wrong {
+            place: n,
+            fault: Fault::Missing,
+        });
     }
-    let ny = count_of(numbers[at]);
+    let ny = numbers[at] as usize;
     let long_y = PLACES < ny;
     if long_y {
-        return Input::Wrong(at, Fault::LongList);
+        return Err(Wrong {
+            place: at,
+            fault: Fault::LongList,
+        });
     }
     let all = FIRST_Y + nx + ny;
     if n < all {
-        return Input::Wrong(n, Fault::Missing);
+        return Err(Wrong {
+            place: n,
+            fault: Fault::Missing,
+        });
     }
     if all < n {
-        return Input::Wrong(all, Fault::Extra);
+        return Err(Wrong {
+            place: all,
+            fault: Fault::Extra,
+        });
     }
-    Input::Read(nx, ny)
+    Ok(Lists { xs: nx, ys: ny })
 }
 
 // Reads the text's numbers into the lent array, as many as it has room for, and answers for them all. Of a text with a fault that is no number, those before it are stored.
 #[tactic(auto, unfolding(crate::specs::Input::input_of))]
-pub fn read_input(text: &[u8], numbers: &mut [u32; NUMBERS]) -> Input
+pub fn read_input(text: &[u8], numbers: &mut [u32; NUMBERS]) -> Result<Lists, Wrong>
     ensures value { result ≡ Spec.input_of text.now }
     ensures numbers_after { numbers.new ≡ stored (numbers_of text.now) numbers.old }
 {
-    let reading = numbers::read_numbers(text, numbers);
-    match reading {
-        Reading::Read(n) => laid_out(numbers, n),
-        Reading::NotANumber(i) => Input::Wrong(i, Fault::NotANumber),
-        Reading::TooLarge(i) => Input::Wrong(i, Fault::TooLarge),
+    match numbers::read_numbers(text, numbers) {
+        Ok(n) => laid_out(numbers, n),
+        Err(Unread::NotANumber(i)) => Err(Wrong {
+            place: i,
+            fault: Fault::NotANumber,
+        }),
+        Err(Unread::TooLarge(i)) => Err(Wrong {
+            place: i,
+            fault: Fault::TooLarge,
+        }),
     }
 }
 
@@ -114,10 +132,8 @@ pub fn read_input(text: &[u8], numbers: &mut [u32; NUMBERS]) -> Input
 pub fn fill_places(patterns: &[u32], places: &mut [f32])
     ensures { places.new ≡ Spec.places_in patterns.now places.old }
 {
-    let n = lesser(patterns.len(), places.len());
-    let mut k: usize = 0;
-    while k < n {
+    let n = patterns.len().min(places.len());
+    for k in 0..n {
         places[k] = floats::from_bits(patterns[k]);
-        k += 1;
     }
 }

@@ -3,7 +3,7 @@
 
 ghost use Rattle.std.specs.Prelude.{◌≡◌, ◌≤◌, length};
 
-use arguments::{Asked, Command, Source};
+use arguments::{Command, Source};
 use desk::Reply;
 use std::env::FillError;
 use std::fs::File;
@@ -120,14 +120,12 @@ fn has_argument(env: &impl Env, i: usize) -> bool {
 fn count_words(env: &impl Env) -> usize
     ensures { result ≤ 3 }
 {
-    let mut n: usize = 0;
-    while n < 3 {
+    for n in 0..3 {
         if !has_argument(env, n + 1) {
             return n;
         }
-        n += 1;
     }
-    n
+    3
 }
 
 // Puts a word at the front of the room, and answers its length; 0 where it is not there, or has no room.
@@ -150,13 +148,13 @@ fn main(rt: HostRuntime) -> io::Result<()> {
     let m = read_word(&rt, 2, &mut second);
     let asked = arguments::asked_by(words, &first[..n], &second[..m]);
     match asked {
-        Asked::Unclear => tell(
+        None => tell(
             &err,
             b"unclear words: judge help tells how judge is called\n",
         ),
-        Asked::Run(command, source) => match command {
+        Some(asked) => match asked.command {
             Command::Help => help(&out, &err),
-            _ => match source {
+            command => match asked.source {
                 Source::StandardInput => {
                     run(&out, &err, command, &mut rt.stdin(), b"standard input")
                 }

@@ -10,21 +10,14 @@ use Rattle.floats.specs.Arithmetic.{◌-₃₂◌, ◌*₃₂◌}
 use Rattle.game.specs.declared.FieldDimensions.{FieldDimensions}
 use Rattle.game.specs.declared.Game.{Game}
 use Rattle.game.specs.declared.Margins.{Margins}
-use Rattle.game.specs.declared.MaybeMargins.{MaybeMargins}
-use Rattle.game.specs.declared.MaybeMargins.TheVariants.{NoMargins, Known}
 use Rattle.game.specs.declared.Player.{Player}
-use Rattle.game.specs.declared.PlayerMargins.{PlayerMargins}
 use Rattle.game.specs.declared.PlayerPose.{PlayerPose}
-use Rattle.game.specs.declared.SeenPose.{SeenPose}
-use Rattle.game.specs.declared.SeenPose.TheVariants.{Absent, Present}
 use Rattle.game.specs.declared.SetPlay.{SetPlay}
 use Rattle.game.specs.declared.SetPlay.TheVariants.{NoSetPlay, KickOff, DirectFreeKick, IndirectFreeKick, PenaltyKick, ThrowIn, GoalKick, CornerKick}
 use Rattle.game.specs.declared.Side.{Side}
 use Rattle.game.specs.declared.Team.{Team}
 use Rattle.game.specs.Game.{is_unpenalized}
 use Rattle.game.specs.Players.{player_at, margins_at}
-use Rattle.kicker.specs.declared.Distance.{Distance}
-use Rattle.kicker.specs.declared.Distance.TheVariants.{NoDistance}
 use Rattle.lists.specs.Counting.{count_to}
 use Rattle.lists.specs.Ranking.{rank}
 use Rattle.geometry.specs.Geometry.{side_to_sign, mark_x}
@@ -37,6 +30,7 @@ use Rattle.lists.proofs.Ranking as R
 use Rattle.lists.proofs.Ranking.{ranked_same}
 use Rattle.lists.proofs.Bools.{by_test}
 use Rattle.lists.proofs.Lexical.{Sooner, sooner, is_sooner, not_itself, through, one_of_two}
+use Rattle.std.specs.Prelude.{Option, None, Some}
 
 -- ---- a half turn and a mirror image: x changes its sign with the ends where a is true, and y where b is
 kick_off_changed : (a b : Bool) (field : FieldDimensions) (sign : Float) (p : PlayerPose) → kick_off_distance field (signed a sign) (changed_pose a b p) ≡ kick_off_distance field sign p
@@ -58,17 +52,17 @@ distance_changed a b ThrowIn field sign p m = refl
 distance_changed a b GoalKick field sign p m = refl
 distance_changed a b CornerKick field sign p m = refl
 
-seen_changed : (a b : Bool) (s : SetPlay) (field : FieldDimensions) (sign : Float) (p : SeenPose) (m : MaybeMargins) → seen_distance s field (signed a sign) (changed_seen a b p) m ≡ seen_distance s field sign p m
-seen_changed a b s field sign Absent m = refl
-seen_changed a b s field sign (Present p) NoMargins = refl
-seen_changed a b s field sign (Present p) (Known m) = distance_changed a b s field sign p m
+seen_changed : (a b : Bool) (s : SetPlay) (field : FieldDimensions) (sign : Float) (p : Option PlayerPose) (m : Option Margins) → seen_distance s field (signed a sign) (changed_seen a b p) m ≡ seen_distance s field sign p m
+seen_changed a b s field sign None m = refl
+seen_changed a b s field sign (Some p) None = refl
+seen_changed a b s field sign (Some p) (Some m) = distance_changed a b s field sign p m
 
-module _ (a b : Bool) (s : SetPlay) (field : FieldDimensions) (sign : Float) (team : Team) (margins : List PlayerMargins) where
+module _ (a b : Bool) (s : SetPlay) (field : FieldDimensions) (sign : Float) (team : Team) (margins : List (Option Margins)) where
   at_changed : (i : ℕ) → distance_at s field (signed a sign) (changed_team a b team) margins i ≡ distance_at s field sign team margins i
   unfolding distance_at
   at_changed i =
       ap (λ (q : Player). player_distance s field (signed a sign) q (margins_at margins i)) (player_at_changed a b team i)
-      ∙ ap (λ (d : Distance). cond (is_unpenalized (player_at team i).penalty) d NoDistance) (seen_changed a b s field sign (player_at team i).pose (margins_at margins i))
+      ∙ ap (λ (d : Option Float). cond (is_unpenalized (player_at team i).penalty) d None) (seen_changed a b s field sign (player_at team i).pose (margins_at margins i))
 
   nearest_changed : nearest s field (signed a sign) (changed_team a b team) margins ≡ nearest s field sign team margins
   unfolding nearest
@@ -77,10 +71,10 @@ module _ (a b : Bool) (s : SetPlay) (field : FieldDimensions) (sign : Float) (te
       (λ i j. comes_before (distance_at s field (signed a sign) (changed_team a b team) margins i) (distance_at s field (signed a sign) (changed_team a b team) margins j) i j)
       (λ i j. comes_before (distance_at s field sign team margins i) (distance_at s field sign team margins j) i j) 0
       (λ i l. ap qualifies (at_changed i))
-      (λ i j l m c d. ap₂ (λ (x y : Distance). comes_before x y i j) (at_changed i) (at_changed j))
+      (λ i j l m c d. ap₂ (λ (x y : Option Float). comes_before x y i j) (at_changed i) (at_changed j))
 
 -- the same player kicks
-pub kicker_changed : (a b : Bool) (g : Game) (t : Team) (f : FieldDimensions) (m : List PlayerMargins) (side : Side)
+pub kicker_changed : (a b : Bool) (g : Game) (t : Team) (f : FieldDimensions) (m : List (Option Margins)) (side : Side)
     → determine_kicking_player (changed_game a g) (changed_team a b t) f m side ≡ determine_kicking_player g t f m side
 unfolding determine_kicking_player
 kicker_changed a b g t f m side =
@@ -88,7 +82,7 @@ kicker_changed a b g t f m side =
     ∙ ap kicker_number (nearest_changed a b g.set_play f (side_to_sign side g.sides) t m)
 
 -- ---- the kicker comes first
-module _ (s : SetPlay) (field : FieldDimensions) (sign : Float) (team : Team) (margins : List PlayerMargins) where
+module _ (s : SetPlay) (field : FieldDimensions) (sign : Float) (team : Team) (margins : List (Option Margins)) where
   may : ℕ → Bool
   may i = qualifies (distance_at s field sign team margins i)
 

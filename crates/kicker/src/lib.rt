@@ -5,20 +5,10 @@ ghost use Rattle.std.specs.Prelude.{◌≡◌, ◌<◌};
 ghost use Rattle.kicker.specs.Kicker as Spec;
 ghost use Rattle.kicker.specs.KickerKeys as Kicking;
 
-use game::{
-    FieldDimensions, Game, Margins, MaybeMargins, MaybeNumber, Player, PlayerMargins, PlayerPose,
-    SeenPose, SetPlay, Side, Team,
-};
+use game::{FieldDimensions, Game, Margins, Player, PlayerPose, SetPlay, Side, Team};
 use keys::NO_KEY;
 
-// The distance to the mark of a player who may kick.
-#[derive(Clone, Copy)]
-pub enum Distance {
-    NoDistance,
-    At(f32),
-}
-
-// The distance of a player by the set play. At a kick-off: over the halfway line, in the centre circle, off the mark. At a penalty kick: in
+// The distance to the mark of a player who may kick, by the set play. At a kick-off: over the halfway line, in the centre circle, off the mark. At a penalty kick: in
 // the opponents' penalty area or near the mark, off the mark.
 #[tactic(auto, unfolding(crate::specs::Kicker::kick_off_distance, crate::specs::Kicker::penalty_kick_distance))]
 fn kicker_distance(
@@ -27,7 +17,7 @@ fn kicker_distance(
     sign: f32,
     pose: PlayerPose,
     margins: Margins,
-) -> Distance
+) -> Option<f32>
     ensures { result ≡ Spec.kicker_distance set_play field sign pose margins }
 {
     let team_x = sign * pose.x;
@@ -38,22 +28,22 @@ fn kicker_distance(
             if team_x > -(field.line_width * 0.5 + pose.radius) {
                 let distance = hypot::hypot(pose.x, pose.y);
                 if (distance < circle) & (distance >= mark) {
-                    return Distance::At(distance);
+                    return Some(distance);
                 }
-                return Distance::NoDistance;
+                return None;
             }
-            Distance::NoDistance
+            None
         }
         SetPlay::PenaltyKick => {
             let mark_x = field.length * 0.5 - field.penalty_mark_distance;
             let distance = hypot::hypot(team_x - mark_x, pose.y);
             let inside = margins.opponent_penalty_area > 0.0;
             if (inside | (distance < circle)) & (distance >= mark) {
-                return Distance::At(distance);
+                return Some(distance);
             }
-            Distance::NoDistance
+            None
         }
-        _ => Distance::NoDistance,
+        _ => None,
     }
 }
 
@@ -63,7 +53,7 @@ fn kicker_key(
     field: FieldDimensions,
     sign: f32,
     player: Player,
-    margins: MaybeMargins,
+    margins: Option<Margins>,
     i: usize,
 ) -> u64
     requires { i < 20 }
@@ -73,14 +63,14 @@ fn kicker_key(
     let penalty = player.penalty;
     let pose = player.pose;
     if game::is_unpenalized(penalty) {
-        let SeenPose::Present(p) = pose else {
+        let Some(p) = pose else {
             return NO_KEY;
         };
-        let MaybeMargins::Known(m) = margins else {
+        let Some(m) = margins else {
             return NO_KEY;
         };
         let distance = kicker_distance(set_play, field, sign, p, m);
-        let Distance::At(d) = distance else {
+        let Some(d) = distance else {
             return NO_KEY;
         };
         let order = floats::total_key(floats::bits(d)) as u64;
@@ -95,9 +85,9 @@ pub fn determine_kicking_player(
     game: Game,
     team: Team,
     field: FieldDimensions,
-    margins: [PlayerMargins; 20],
+    margins: [Option<Margins>; 20],
     side: Side,
-) -> MaybeNumber
+) -> Option<u8>
     ensures { result ≡ Spec.determine_kicking_player game team field margins side }
 {
     let sides = game.sides;
@@ -105,17 +95,14 @@ pub fn determine_kicking_player(
     let sign = geometry::side_to_sign(side, sides);
     let players = team.players;
     let mut best: u64 = NO_KEY;
-    let mut i: usize = 0;
-    while i < 20 {
+    for i in 0..20 {
         let player = players[i];
-        let slot = margins[i];
-        let known = slot.margins;
+        let known = margins[i];
         let key = kicker_key(set_play, field, sign, player, known, i);
         best = keys::lower_from(0, key, best);
-        i += 1;
     }
     if best < NO_KEY {
-        return MaybeNumber::Number((best % 32) as u8);
+        return Some((best % 32) as u8);
     }
-    MaybeNumber::NoNumber
+    None
 }

@@ -8,7 +8,7 @@ mod filled;
 ghost use Rattle.std.specs.Prelude.{◌≤◌};
 
 use floats::{bits, from_bits};
-use numbers::Reading;
+use std::cmp::Ordering;
 use std::io;
 
 // The numbers of a vector: its function's, six operands and what is expected.
@@ -58,9 +58,9 @@ fn value(vector: &[u32]) -> u32 {
         9 => {
             let order = floats::total_cmp(x, y);
             match order {
-                floats::Order::Less => 0,
-                floats::Order::Equal => 1,
-                floats::Order::Greater => 2,
+                Ordering::Less => 0,
+                Ordering::Equal => 1,
+                Ordering::Greater => 2,
             }
         }
         10 => bits(floats::rem_euclid(x, y)),
@@ -88,34 +88,22 @@ fn agreeing(rt: &impl Print, vectors: &[u32; MOST], n: usize) -> io::Result<usiz
 {
     let all = &vectors[..];
     let mut agree = 0;
-    let mut i = 0;
-    while i < n {
+    for i in 0..n {
         let from = i * WIDTH;
         if agrees(rt, &all[from..from + WIDTH], i + 1)? {
             agree += 1;
         }
-        i += 1;
     }
     Ok(agree)
-}
-
-// How many vectors were read and have room; 0 where something is no number.
-fn count_of(reading: Reading) -> usize
-    ensures { result ≤ 1536 }
-{
-    match reading {
-        Reading::Read(n) => if n < MOST { n / WIDTH } else { MOST / WIDTH },
-        Reading::NotANumber(_) => 0,
-        Reading::TooLarge(_) => 0,
-    }
 }
 
 fn main(rt: HostRuntime) -> io::Result<()> {
     let mut text = [0u8; ROOM];
     let size = intake::read_text(&mut rt.stdin(), &mut text)?;
     let mut vectors = [0u32; MOST];
-    let reading = numbers::read_numbers(&text[..size], &mut vectors);
-    let n = count_of(reading);
+    // Where something is no number, no vector is taken.
+    let read = numbers::read_numbers(&text[..size], &mut vectors).unwrap_or(0);
+    let n = read.min(MOST) / WIDTH;
     let agree = agreeing(&rt, &vectors, n)?;
     println!(rt; "{agree} of {n} agree")
 }

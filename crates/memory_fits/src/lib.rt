@@ -6,8 +6,8 @@ ghost use Rattle.lists.specs.Refusals.{first_refusal};
 ghost use Rattle.refusals.specs.Refusals as Refusals;
 ghost use Rattle.memory_fits.specs.MemoryFits as Spec;
 
-use game::{Ball, MaybeNumber, MaybeRestart};
-use remembered::{MaybeAllowance, Remembered};
+use game::{Ball, Restart};
+use remembered::Remembered;
 
 fn is_coordinate(x: f32) -> bool
     ensures { result ≡ Refusals.is_coordinate x }
@@ -16,58 +16,35 @@ fn is_coordinate(x: f32) -> bool
 }
 
 // At most 256 either way; what is not there is not asked.
-fn allowance_fits(allowance: MaybeAllowance) -> bool
+fn allowance_fits(allowance: Option<f32>) -> bool
     ensures { result ≡ Spec.allowance_fits allowance }
 {
-    match allowance {
-        MaybeAllowance::NoAllowance => true,
-        MaybeAllowance::Allowed(a) => (-256.0 <= a) & (a <= 256.0),
-    }
+    allowance.is_none_or(|a| (-256.0 <= a) & (a <= 256.0))
 }
 
 fn allowances_fit(remembered: [Remembered; 20]) -> bool
     ensures { result ≡ Spec.allowances_fit remembered }
 {
     let mut ok = true;
-    let mut i: usize = 0;
-    while i < 20 {
+    for i in 0..20 {
         let r = remembered[i];
         let allowance = r.return_allowance;
         ok = ok & allowance_fits(allowance);
-        i += 1;
     }
     ok
 }
 
-fn number_fits(number: MaybeNumber) -> bool
+fn number_fits(number: Option<u8>) -> bool
     ensures { result ≡ Refusals.number_fits number }
 {
-    match number {
-        MaybeNumber::NoNumber => true,
-        MaybeNumber::Number(n) => (game::MIN <= n) & (n <= game::MAX),
-    }
+    number.is_none_or(|n| (game::MIN <= n) & (n <= game::MAX))
 }
 
 // The kick place of a restart that is in effect, with or without a kicker.
-fn kick_fits(restart: MaybeRestart) -> bool
+fn kick_fits(restart: Option<Restart>) -> bool
     ensures { result ≡ Spec.kick_fits restart }
 {
-    match restart {
-        MaybeRestart::NoRestart => true,
-        MaybeRestart::InEffect(r) => is_coordinate(r.kick_x) & is_coordinate(r.kick_y),
-    }
-}
-
-fn kicker_fits(restart: MaybeRestart) -> bool
-    ensures { result ≡ Refusals.restart_fits restart }
-{
-    match restart {
-        MaybeRestart::NoRestart => true,
-        MaybeRestart::InEffect(r) => {
-            let kicker = r.kicker;
-            number_fits(kicker)
-        }
-    }
+    restart.is_none_or(|r| is_coordinate(r.kick_x) & is_coordinate(r.kick_y))
 }
 
 // The number of the first of the three that does not hold, or 0.
@@ -92,9 +69,9 @@ pub fn memory_refusal(
     home: [Remembered; 20],
     away: [Remembered; 20],
     ball: Ball,
-    restart: MaybeRestart,
-    kicking_player: MaybeNumber,
-    toucher: MaybeNumber,
+    restart: Option<Restart>,
+    kicking_player: Option<u8>,
+    toucher: Option<u8>,
 ) -> u8
     ensures { result ≡ Spec.memory_refusal home away ball restart kicking_player toucher }
 {
@@ -103,6 +80,7 @@ pub fn memory_refusal(
         & is_coordinate(ball.y)
         & is_coordinate(ball.z)
         & kick_fits(restart);
-    let numbers = number_fits(kicking_player) & kicker_fits(restart) & number_fits(toucher);
+    let kicker = restart.and_then(|r| r.kicker);
+    let numbers = number_fits(kicking_player) & number_fits(kicker) & number_fits(toucher);
     first_failing(allowances, places, numbers)
 }

@@ -4,7 +4,7 @@
 ghost use Rattle.std.specs.Prelude.{◌≡◌};
 ghost use Rattle.motion.specs.Motion as Spec;
 
-use game::{Player, PlayerList, PlayerReference, ReferencePose, SeenPose, Team};
+use game::{Player, PlayerList, PlayerPose, Team};
 
 // The distance a player must move.
 const MOTION_DISTANCE: f32 = 0.1;
@@ -21,10 +21,10 @@ pub fn has_moved(player: Player) -> bool
     let reference = player.reference;
     let unpenalized = game::is_unpenalized(penalty);
     match pose {
-        SeenPose::Absent => false,
-        SeenPose::Present(p) => match reference {
-            ReferencePose::NoReference => false,
-            ReferencePose::Reference(q) => {
+        None => false,
+        Some(p) => match reference {
+            None => false,
+            Some(q) => {
                 let distance = hypot::hypot(p.x - q.x, p.y - q.y);
                 if distance > MOTION_DISTANCE {
                     return unpenalized;
@@ -42,11 +42,9 @@ fn moved_flags(team: Team) -> [bool; 20]
 {
     let players = team.players;
     let mut out = [false; 20];
-    let mut i: usize = 0;
-    while i < 20 {
+    for i in 0..20 {
         let player = players[i];
         out[i] = has_moved(player);
-        i += 1;
     }
     out
 }
@@ -55,34 +53,25 @@ fn moved_flags(team: Team) -> [bool; 20]
 #[derive(Clone, Copy)]
 pub struct Motion {
     pub moved: PlayerList,
-    pub references: [PlayerReference; 20],
+    pub references: [Option<PlayerPose>; 20],
 }
 
 // The reference pose of one player after it was checked: none once it has moved.
-fn reference_after(player: Player, moved: bool) -> PlayerReference
+fn reference_after(player: Player, moved: bool) -> Option<PlayerPose>
     ensures { result ≡ Spec.reference_unless moved player }
 {
-    if moved {
-        let reference = ReferencePose::NoReference;
-        return PlayerReference { reference };
-    }
-    let reference = player.reference;
-    PlayerReference { reference }
+    if moved { None } else { player.reference }
 }
 
 // The reference poses of a team's players after they were checked.
-fn references_after(team: Team, moved: [bool; 20]) -> [PlayerReference; 20]
+fn references_after(team: Team, moved: [bool; 20]) -> [Option<PlayerPose>; 20]
     ensures { result ≡ Spec.references_unless moved team }
 {
     let players = team.players;
-    let none = ReferencePose::NoReference;
-    let blank = PlayerReference { reference: none };
-    let mut out = [blank; 20];
-    let mut i: usize = 0;
-    while i < 20 {
+    let mut out = [None; 20];
+    for i in 0..20 {
         let player = players[i];
         out[i] = reference_after(player, moved[i]);
-        i += 1;
     }
     out
 }

@@ -5,10 +5,11 @@ use Prim.Native.Nat.{ℕ, ◌+◌, ◌-◌, ◌*◌, ◌≤◌}
 use native.Mathlib.Omega.{arith}
 use borrow.Author.Tests.{leb-true}
 use lib.Dec.{leb}
+use Rattle.std.specs.Prelude.{Ok, Err}
 use Rattle.lists.proofs.Bools.{both_true}
 use Rattle.numbers.specs.declared.Progress.{Progress}
 use Rattle.numbers.specs.declared.Progress.TheVariants.{Closed, Open}
-use Rattle.numbers.specs.declared.Reading.TheVariants.{Read, NotANumber, TooLarge}
+use Rattle.numbers.specs.declared.Unread.TheVariants.{TooLarge}
 use Rattle.numbers.specs.Numbers.{is_separator, is_digit, is_small}
 use Rattle.numbers.specs.Walk.{Kind, Separator, Digit, Other, kind_of, with_digit, after_byte, field_of, begun, open_value}
 
@@ -32,16 +33,14 @@ pub begun_on : (k : Kind) (p : Progress) → begun (after_byte k p) ≤ begun p 
 begun_on Separator (Closed r) = omega arith
 begun_on Separator (Open n v) = go (is_small v)
   where
-    go : (s : Bool) → field_of (cond s (Read (n + 1)) (TooLarge n)) ≤ n + 1 + 1
+    go : (s : Bool) → field_of (cond s (Ok (n + 1)) (Err (TooLarge n))) ≤ n + 1 + 1
     go true = omega arith
     go false = omega arith
-begun_on (Digit d) (Closed (Read n)) = omega arith
-begun_on (Digit d) (Closed (NotANumber k)) = omega arith
-begun_on (Digit d) (Closed (TooLarge k)) = omega arith
+begun_on (Digit d) (Closed (Ok n)) = omega arith
+begun_on (Digit d) (Closed (Err unread)) = omega arith
 begun_on (Digit d) (Open n v) = omega arith
-begun_on Other (Closed (Read n)) = omega arith
-begun_on Other (Closed (NotANumber k)) = omega arith
-begun_on Other (Closed (TooLarge k)) = omega arith
+begun_on Other (Closed (Ok n)) = omega arith
+begun_on Other (Closed (Err unread)) = omega arith
 begun_on Other (Open n v) = omega arith
 
 -- a value with one digit more is held
@@ -55,9 +54,8 @@ held v d = go (is_small (10 * v + d)) refl
 
 value_after : (k : Kind) (p : Progress) → digit_in k ≤ 9 → open_value (after_byte k p) ≤ 4294967296
 value_after Separator p h = omega arith
-value_after (Digit d) (Closed (Read n)) h = omega arith
-value_after (Digit d) (Closed (NotANumber k)) h = omega arith
-value_after (Digit d) (Closed (TooLarge k)) h = omega arith
+value_after (Digit d) (Closed (Ok n)) h = omega arith
+value_after (Digit d) (Closed (Err unread)) h = omega arith
 value_after (Digit d) (Open n v) h = held v d
 value_after Other p h = omega arith
 

@@ -2,16 +2,17 @@
 use mathlib.Core.Path.{◌≡◌, refl}
 use mathlib.Core.List.{List, [], ◌∷◌, ◌++◌}
 use Prim.Native.Nat.{ℕ, zero, suc}
+use Rattle.std.specs.Prelude.{Ok, Err}
 use Rattle.lists.specs.Put.{fronted}
-use Rattle.numbers.specs.declared.Reading.TheVariants.{Read, NotANumber, TooLarge}
+use Rattle.numbers.specs.declared.Unread.TheVariants.{NotANumber, TooLarge}
 use Rattle.numbers.specs.Numbers.{pieces, non_empty, all_digits, value_from, numbers_in, reading_from, numbers_of, reading_of, stored}
 
 -- "", and a blank, a tab, a line feed and a carriage return
-empty : reading_of [] ≡ Read 0
+empty : reading_of [] ≡ Ok 0
 unfolding pieces non_empty reading_from
 empty = refl
 
-separators : reading_of (32 ∷ 9 ∷ 10 ∷ 13 ∷ []) ≡ Read 0
+separators : reading_of (32 ∷ 9 ∷ 10 ∷ 13 ∷ []) ≡ Ok 0
 unfolding pieces non_empty reading_from
 separators = refl
 
@@ -19,7 +20,7 @@ separators = refl
 unfoldable seven_eight : List ℕ
 seven_eight = 55 ∷ 32 ∷ 48 ∷ 56 ∷ 10 ∷ []
 
-two_read : reading_of seven_eight ≡ Read 2
+two_read : reading_of seven_eight ≡ Ok 2
 unfolding seven_eight pieces non_empty all_digits value_from reading_from
 two_read = refl
 
@@ -40,7 +41,7 @@ one_stored = refl
 unfoldable faulty : List ℕ
 faulty = 49 ∷ 32 ∷ 120 ∷ 32 ∷ 50 ∷ []
 
-fault_named : reading_of faulty ≡ NotANumber 1
+fault_named : reading_of faulty ≡ Err (NotANumber 1)
 unfolding faulty pieces non_empty all_digits value_from reading_from
 fault_named = refl
 
@@ -49,19 +50,19 @@ unfolding faulty pieces non_empty all_digits value_from numbers_in
 before_fault = refl
 
 -- "-3", "1,2" and "1", a tab, "2"; "1", a vertical tab, "2"
-minus : reading_of (45 ∷ 51 ∷ []) ≡ NotANumber 0
+minus : reading_of (45 ∷ 51 ∷ []) ≡ Err (NotANumber 0)
 unfolding pieces non_empty all_digits value_from reading_from
 minus = refl
 
-comma : reading_of (49 ∷ 44 ∷ 50 ∷ []) ≡ NotANumber 0
+comma : reading_of (49 ∷ 44 ∷ 50 ∷ []) ≡ Err (NotANumber 0)
 unfolding pieces non_empty all_digits value_from reading_from
 comma = refl
 
-tab : reading_of (49 ∷ 9 ∷ 50 ∷ []) ≡ Read 2
+tab : reading_of (49 ∷ 9 ∷ 50 ∷ []) ≡ Ok 2
 unfolding pieces non_empty all_digits value_from reading_from
 tab = refl
 
-vertical_tab : reading_of (49 ∷ 11 ∷ 50 ∷ []) ≡ NotANumber 0
+vertical_tab : reading_of (49 ∷ 11 ∷ 50 ∷ []) ≡ Err (NotANumber 0)
 unfolding pieces non_empty all_digits value_from reading_from
 vertical_tab = refl
 
@@ -75,12 +76,12 @@ unfolding most pieces non_empty all_digits value_from numbers_in
 largest = refl
 
 -- 4294967296
-past_largest : reading_of (most ++ (54 ∷ [])) ≡ TooLarge 0
+past_largest : reading_of (most ++ (54 ∷ [])) ≡ Err (TooLarge 0)
 unfolding most pieces non_empty all_digits value_from reading_from
 past_largest = refl
 
 -- 4294967296a: a wrong byte counts before the size
-past_and_wrong : reading_of (most ++ (54 ∷ 97 ∷ [])) ≡ NotANumber 0
+past_and_wrong : reading_of (most ++ (54 ∷ 97 ∷ [])) ≡ Err (NotANumber 0)
 unfolding most pieces non_empty all_digits value_from reading_from
 past_and_wrong = refl
 
@@ -89,6 +90,6 @@ unfoldable nines : ℕ → List ℕ
 nines zero = []
 nines (suc n) = 57 ∷ nines n
 
-thousand_digits : reading_of (nines 1000) ≡ TooLarge 0
+thousand_digits : reading_of (nines 1000) ≡ Err (TooLarge 0)
 unfolding nines pieces non_empty all_digits value_from reading_from
 thousand_digits = refl

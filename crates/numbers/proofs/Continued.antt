@@ -8,18 +8,19 @@ use native.Mathlib.Omega.{arith}
 use borrow.Author.Tests.{leb-false, lt-leb}
 use lib.ListN.{length, drop, set, get_or, drop_of_length-le}
 use lib.Seq.{sets, drop-cons}
+use Rattle.std.specs.Prelude.{Result, Ok, Err}
 use Rattle.lists.specs.Put.{put_if}
 use Rattle.numbers.specs.declared.Progress.{Progress}
 use Rattle.numbers.specs.declared.Progress.TheVariants.{Closed, Open}
-use Rattle.numbers.specs.declared.Reading.{Reading}
-use Rattle.numbers.specs.declared.Reading.TheVariants.{Read, NotANumber, TooLarge}
+use Rattle.numbers.specs.declared.Unread.{Unread}
+use Rattle.numbers.specs.declared.Unread.TheVariants.{NotANumber, TooLarge}
 use Rattle.numbers.specs.Numbers.{is_separator, is_digit, is_small, on_first, cut, pieces, non_empty, all_digits, value_from, value_of, numbers_in, reading_from, then_more, judged, fields, numbers_of, reading_of, stored}
 use Rattle.numbers.specs.Walk.{Separator, Digit, Other, kind_of, with_digit, ended, stored_at_end, after_digit, after_other, after_byte, stored_by_byte}
 use Rattle.numbers.proofs.Stored.{sets_stored}
 
 -- a reading and a buffer
 abbrev pub Outcome : Type 0
-Outcome = Reading × List ℕ
+Outcome = Result ℕ Unread × List ℕ
 
 -- the outcome of fields that follow n numbers
 unfoldable pub finished : ℕ → List (List ℕ) → List ℕ → Outcome
@@ -27,15 +28,14 @@ finished n fs buffer = (reading_from n fs, sets buffer n (numbers_in fs))
 
 -- the outcome of a field and those after it, where the Bools tell whether it has only digits and whether its value v is small
 unfoldable pub met : Bool → Bool → ℕ → ℕ → List (List ℕ) → List ℕ → Outcome
-met false small n v fs buffer = (NotANumber n, buffer)
-met true false n v fs buffer = (TooLarge n, buffer)
+met false small n v fs buffer = (Err (NotANumber n), buffer)
+met true false n v fs buffer = (Err (TooLarge n), buffer)
 met true true n v fs buffer = finished (n + 1) fs (set buffer n v)
 
 -- the outcome of a reading and the fields after it
-unfoldable pub resumed : Reading → List (List ℕ) → List ℕ → Outcome
-resumed (Read n) fs buffer = finished n fs buffer
-resumed (NotANumber k) fs buffer = (NotANumber k, buffer)
-resumed (TooLarge k) fs buffer = (TooLarge k, buffer)
+unfoldable pub resumed : Result ℕ Unread → List (List ℕ) → List ℕ → Outcome
+resumed (Ok n) fs buffer = finished n fs buffer
+resumed (Err unread) fs buffer = (Err unread, buffer)
 
 -- the outcome of what is known and the pieces after it, the first of which goes on with the open field
 unfoldable pub continued : Progress → List (List ℕ) → List ℕ → Outcome
@@ -89,12 +89,12 @@ unfolding continued non_empty all_digits value_from
 separator_on (Closed r) ps buffer = refl
 separator_on (Open n v) ps buffer = go (is_small v)
   where
-    go : (s : Bool) → met true s n v (non_empty ps) buffer ≡ resumed (cond s (Read (n + 1)) (TooLarge n)) (non_empty ps) (put_if s buffer n v)
+    go : (s : Bool) → met true s n v (non_empty ps) buffer ≡ resumed (cond s (Ok (n + 1)) (Err (TooLarge n))) (non_empty ps) (put_if s buffer n v)
     go true = unfold met resumed in refl
     go false = unfold met resumed in refl
 
 -- a byte that does not separate opens a field
-field_on : (b n : ℕ) (ps : List (List ℕ)) (buffer : List ℕ) → continued (Closed (Read n)) (on_first b ps) buffer ≡ continued (Open n 0) (on_first b ps) buffer
+field_on : (b n : ℕ) (ps : List (List ℕ)) (buffer : List ℕ) → continued (Closed (Ok n)) (on_first b ps) buffer ≡ continued (Open n 0) (on_first b ps) buffer
 unfolding continued resumed non_empty
 field_on b n [] buffer = finished_field n (b ∷ []) [] buffer
 field_on b n (p ∷ ps) buffer = finished_field n (b ∷ p) (non_empty ps) buffer
@@ -106,21 +106,19 @@ digit_more b e n v [] buffer = simp e
 digit_more b e n v (p ∷ ps) buffer = simp e
 
 digit_on : (b : ℕ) → is_digit b ≡ true → (p : Progress) (ps : List (List ℕ)) (buffer : List ℕ) → continued p (on_first b ps) buffer ≡ continued (after_digit p (b - 48)) ps buffer
-digit_on b e (Closed (Read n)) ps buffer = field_on b n ps buffer ∙ digit_more b e n 0 ps buffer ∙ ap (λ (v : ℕ). continued (Open n v) ps buffer) (omega arith)
-digit_on b e (Closed (NotANumber k)) ps buffer = unfold continued resumed in refl
-digit_on b e (Closed (TooLarge k)) ps buffer = unfold continued resumed in refl
+digit_on b e (Closed (Ok n)) ps buffer = field_on b n ps buffer ∙ digit_more b e n 0 ps buffer ∙ ap (λ (v : ℕ). continued (Open n v) ps buffer) (omega arith)
+digit_on b e (Closed (Err unread)) ps buffer = unfold continued resumed in refl
 digit_on b e (Open n v) ps buffer = digit_more b e n v ps buffer ∙ held_same n v (b - 48) ps buffer
 
 -- any other byte spoils it
-other_more : (b : ℕ) → is_digit b ≡ false → (n v : ℕ) (ps : List (List ℕ)) (buffer : List ℕ) → continued (Open n v) (on_first b ps) buffer ≡ continued (Closed (NotANumber n)) ps buffer
+other_more : (b : ℕ) → is_digit b ≡ false → (n v : ℕ) (ps : List (List ℕ)) (buffer : List ℕ) → continued (Open n v) (on_first b ps) buffer ≡ continued (Closed (Err (NotANumber n))) ps buffer
 unfolding continued resumed met all_digits
 other_more b e n v [] buffer = simp e
 other_more b e n v (p ∷ ps) buffer = simp e
 
 other_on : (b : ℕ) → is_digit b ≡ false → (p : Progress) (ps : List (List ℕ)) (buffer : List ℕ) → continued p (on_first b ps) buffer ≡ continued (Closed (after_other p)) ps buffer
-other_on b e (Closed (Read n)) ps buffer = field_on b n ps buffer ∙ other_more b e n 0 ps buffer
-other_on b e (Closed (NotANumber k)) ps buffer = unfold continued resumed in refl
-other_on b e (Closed (TooLarge k)) ps buffer = unfold continued resumed in refl
+other_on b e (Closed (Ok n)) ps buffer = field_on b n ps buffer ∙ other_more b e n 0 ps buffer
+other_on b e (Closed (Err unread)) ps buffer = unfold continued resumed in refl
 other_on b e (Open n v) ps buffer = other_more b e n v ps buffer
 
 -- any byte
@@ -136,11 +134,10 @@ byte_on b p rest buffer = go (is_separator b) (is_digit b) refl
     go false false e = other_on b e p (pieces rest) buffer
 
 -- ---- the text's end
-resumed_end : (r : Reading) (buffer : List ℕ) → resumed r [] buffer ≡ (r, buffer)
+resumed_end : (r : Result ℕ Unread) (buffer : List ℕ) → resumed r [] buffer ≡ (r, buffer)
 unfolding resumed finished reading_from numbers_in
-resumed_end (Read n) buffer = refl
-resumed_end (NotANumber k) buffer = refl
-resumed_end (TooLarge k) buffer = refl
+resumed_end (Ok n) buffer = refl
+resumed_end (Err unread) buffer = refl
 
 pub end_on : (p : Progress) (buffer : List ℕ) → continued p (pieces []) buffer ≡ (ended p, stored_at_end p buffer)
 unfolding pieces continued non_empty
@@ -148,7 +145,7 @@ end_on p buffer = separator_on p [] buffer ∙ resumed_end (ended p) (stored_at_
 
 -- ---- the loop
 -- before it
-pub start_on : (text buffer : List ℕ) → continued (Closed (Read 0)) (pieces text) buffer ≡ finished 0 (fields text) buffer
+pub start_on : (text buffer : List ℕ) → continued (Closed (Ok 0)) (pieces text) buffer ≡ finished 0 (fields text) buffer
 unfolding continued resumed
 start_on text buffer = refl
 
@@ -163,7 +160,7 @@ turn_on text numbers next p after i whole h e a s =
     ∙ e
 
 -- after it
-pub all_read_holds : (text buffer numbers last : List ℕ) (p : Progress) (r : Reading) (i : ℕ) → length text ≤ i → continued p (pieces (drop i text)) numbers ≡ finished 0 (fields text) buffer
+pub all_read_holds : (text buffer numbers last : List ℕ) (p : Progress) (r : Result ℕ Unread) (i : ℕ) → length text ≤ i → continued p (pieces (drop i text)) numbers ≡ finished 0 (fields text) buffer
     → r ≡ ended p → last ≡ stored_at_end p numbers → (r ≡ reading_of text) × (last ≡ stored (numbers_of text) buffer)
 unfolding finished
 all_read_holds text buffer numbers last p r i h e a s =

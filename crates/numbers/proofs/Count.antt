@@ -5,7 +5,8 @@ use mathlib.Core.List.{List, [], ◌∷◌}
 use Prim.Native.Nat.{ℕ, ◌+◌}
 use native.Mathlib.Omega.{arith}
 use lib.ListN.{length}
-use Rattle.numbers.specs.declared.Reading.{Reading}
+use Rattle.std.specs.Prelude.{Result}
+use Rattle.numbers.specs.declared.Unread.{Unread}
 use Rattle.numbers.specs.Numbers.{is_small, all_digits, value_of, then_more, judged, numbers_in, reading_from, fields, numbers_of, reading_of}
 use Rattle.numbers.specs.Walk.{field_of}
 
@@ -20,5 +21,5 @@ count_from (f ∷ fs) k = go (all_digits f) (is_small (value_of f)) (count_from 
     go true false more = omega arith
     go true true more = omega arith
 
-pub read_count : (text : List ℕ) (r : Reading) → reading_of text ≡ r → length (numbers_of text) ≡ field_of r
+pub read_count : (text : List ℕ) (r : Result ℕ Unread) → reading_of text ≡ r → length (numbers_of text) ≡ field_of r
 read_count text r e = let all = count_from (fields text) 0 in let same : field_of (reading_of text) ≡ field_of r = ap field_of e in omega arith

@@ -1,8 +1,8 @@
 -- Decimal numbers in a text of bytes, with blanks, tabs, line feeds or carriage returns between them. Definitions only.
-use Rattle.std.specs.Prelude.{Bool, true, false, ◌&&◌, ◌||◌, List, [], ◌∷◌, ℕ, ◌+◌, ◌-◌, ◌*◌, eqb, leb, length, take}
+use Rattle.std.specs.Prelude.{Bool, true, false, ◌&&◌, ◌||◌, Result, Ok, Err, List, [], ◌∷◌, ℕ, ◌+◌, ◌-◌, ◌*◌, eqb, leb, length, take}
 use Rattle.lists.specs.Put.{fronted}
-use Rattle.numbers.specs.declared.Reading.{Reading}
-use Rattle.numbers.specs.declared.Reading.TheVariants.{Read, NotANumber, TooLarge}
+use Rattle.numbers.specs.declared.Unread.{Unread}
+use Rattle.numbers.specs.declared.Unread.TheVariants.{NotANumber, TooLarge}
 
 -- ---- fields
 -- a blank, a tab, a line feed or a carriage return
@@ -73,14 +73,14 @@ numbers_in [] = []
 numbers_in (f ∷ fs) = then_more (is_number f) (value_of f) (numbers_in fs)
 
 -- the reading at the field k, counted from 0: a fault where not all of it is digits, or its value is not small, else that of the later fields
-abbrev pub judged : Bool → Bool → ℕ → Reading → Reading
-judged false small k later = NotANumber k
-judged true false k later = TooLarge k
+abbrev pub judged : Bool → Bool → ℕ → Result ℕ Unread → Result ℕ Unread
+judged false small k later = Err (NotANumber k)
+judged true false k later = Err (TooLarge k)
 judged true true k later = later
 
 -- the reading of fields that follow n numbers: how many numbers there are in all, or which field, counted from 0, is the first that is none
-unfoldable pub reading_from : ℕ → List (List ℕ) → Reading
-reading_from n [] = Read n
+unfoldable pub reading_from : ℕ → List (List ℕ) → Result ℕ Unread
+reading_from n [] = Ok n
 reading_from n (f ∷ fs) = judged (all_digits f) (is_small (value_of f)) n (reading_from (n + 1) fs)
 
 -- the numbers of a text, up to the first field that is none
@@ -88,7 +88,7 @@ abbrev pub numbers_of : List ℕ → List ℕ
 numbers_of t = numbers_in (fields t)
 
 -- how many numbers a text has, or its first field that is none
-abbrev pub reading_of : List ℕ → Reading
+abbrev pub reading_of : List ℕ → Result ℕ Unread
 reading_of t = reading_from 0 (fields t)
 
 -- the buffer with the numbers at its front, as many as it has room for; the rest is kept

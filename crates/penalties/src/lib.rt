@@ -5,47 +5,36 @@ ghost use Rattle.std.specs.Prelude.{◌≡◌};
 ghost use Rattle.penalties.specs.Penalties as Spec;
 
 use game::{
-    FieldDimensions, Game, MaybeMargins, MaybeNumber, Player, PlayerList, PlayerMargins,
-    PlayerVerdict, Positioning, SeenPose, State, Team,
+    FieldDimensions, Game, Margins, Player, PlayerList, PlayerPose, Positioning, State, Team,
 };
 use remembered::Remembered;
 
 // What a player is penalised for.
-#[derive(Clone, Copy)]
+#[derive(Clone, Copy, PartialEq, Eq)]
 pub enum PlayerCall {
-    NoCall,
     LeavingTheField,
     IllegalPosition,
 }
 
-// An element of a side's list of calls.
-#[derive(Clone, Copy)]
-pub struct Called {
-    pub call: PlayerCall,
-}
-
-// What asking of a player gives: its call, and the kicking player after it, who may be named on the way.
+// What asking of a player gives: its call, if any, and the kicking player after it, who may be named on the way.
 #[derive(Clone, Copy)]
 struct Asked {
-    call: PlayerCall,
-    kicking_player: MaybeNumber,
+    call: Option<PlayerCall>,
+    kicking_player: Option<u8>,
 }
 
 // The calls on a side's players, and the kicking player after them.
 #[derive(Clone, Copy)]
 pub struct Penalized {
-    pub calls: [Called; 20],
-    pub kicking_player: MaybeNumber,
+    pub calls: [Option<PlayerCall>; 20],
+    pub kicking_player: Option<u8>,
 }
 
 // Whether a player is there and no part of it is on the field of play.
-fn is_seen_outside(pose: SeenPose, field: FieldDimensions) -> bool
+fn is_seen_outside(pose: Option<PlayerPose>, field: FieldDimensions) -> bool
     ensures { result ≡ Spec.is_seen_outside pose field }
 {
-    match pose {
-        SeenPose::Absent => false,
-        SeenPose::Present(p) => geometry::is_outside_field(p, field),
-    }
+    pose.is_some_and(|p| geometry::is_outside_field(p, field))
 }
 
 // Whether a player is outside the field in Set, where it must be on it unless it is still returning from a penalty.
@@ -63,29 +52,19 @@ fn is_outside_in_set(game: Game, field: FieldDimensions, player: Player, returni
     !shootout & set & unpenalized & !returning & outside
 }
 
-// The call for a position that is illegal or not.
-fn position_call(illegal: bool) -> PlayerCall
+// The call for a position that is illegal, none for another.
+fn position_call(illegal: bool) -> Option<PlayerCall>
     ensures { result ≡ Spec.position_call illegal }
 {
-    if illegal {
-        return PlayerCall::IllegalPosition;
-    }
-    PlayerCall::NoCall
+    illegal.then_some(PlayerCall::IllegalPosition)
 }
 
 // The kicking player once a player that may stand there only as the kicker is asked: in Playing the first such player is it where nobody has been named.
-fn first_kicker(state: State, number: u8, kicking_player: MaybeNumber) -> MaybeNumber
+fn first_kicker(state: State, number: u8, kicking_player: Option<u8>) -> Option<u8>
     ensures { result ≡ Spec.first_kicker (Spec.is_playing state) number kicking_player }
 {
-    match kicking_player {
-        MaybeNumber::NoNumber => {
-            if game::is_playing(state) {
-                return MaybeNumber::Number(number);
-            }
-            MaybeNumber::NoNumber
-        }
-        MaybeNumber::Number(_) => kicking_player,
-    }
+    let asked = game::is_playing(state).then_some(number);
+    kicking_player.or(asked)
 }
 
 // The call for a verdict on the position, and the kicking player after it. Who was in the avoidance region when the set play began has some time to leave it.
@@ -95,20 +74,20 @@ fn judged_position(
     left_avoidance: bool,
     grace_over: bool,
     number: u8,
-    kicking_player: MaybeNumber,
+    kicking_player: Option<u8>,
 ) -> Asked
     ensures { result ≡ Spec.judged_position state verdict left_avoidance grace_over number kicking_player }
 {
     match verdict {
         Positioning::Legal => {
-            let call = PlayerCall::NoCall;
+            let call = None;
             Asked {
                 call,
                 kicking_player,
             }
         }
         Positioning::Illegal => {
-            let call = PlayerCall::IllegalPosition;
+            let call = Some(PlayerCall::IllegalPosition);
             Asked {
                 call,
                 kicking_player,
@@ -144,21 +123,21 @@ fn asked_player(
     in_excess: bool,
     grace_over: bool,
     number: u8,
-    kicking_player: MaybeNumber,
+    kicking_player: Option<u8>,
 ) -> Asked
     ensures { result ≡ Spec.asked_player game field player r verdict in_excess grace_over number kicking_player }
 {
     let state = game.state;
     let outside = is_outside_in_set(game, field, player, r.returning);
     if geometry::is_leaving_the_field(player, field, player.allowance) {
-        let call = PlayerCall::LeavingTheField;
+        let call = Some(PlayerCall::LeavingTheField);
         return Asked {
             call,
             kicking_player,
         };
     }
     if in_excess | outside {
-        let call = PlayerCall::IllegalPosition;
+        let call = Some(PlayerCall::IllegalPosition);
         return Asked {
             call,
             kicking_player,
@@ -180,10 +159,8 @@ fn is_listed(list: PlayerList, number: u8) -> bool
 {
     let numbers = list.numbers;
     let mut found = false;
-    let mut i: usize = 0;
-    while i < 20 {
+    for i in 0..20 {
         found = found | ((i < list.count) & (numbers[i] == number));
-        i += 1;
     }
     found
 }
@@ -196,10 +173,8 @@ fn listed_flags(list: PlayerList) -> [bool; 20]
     if list.count == 0 {
         return out;
     }
-    let mut i: usize = 0;
-    while i < 20 {
+    for i in 0..20 {
         out[i] = is_listed(list, (i + 1) as u8);
-        i += 1;
     }
     out
 }
@@ -209,26 +184,22 @@ pub fn penalize_players(
     game: Game,
     field: FieldDimensions,
     team: Team,
-    verdicts: [PlayerVerdict; 20],
+    verdicts: [Positioning; 20],
     excess: PlayerList,
     remembered: [Remembered; 20],
     grace_over: bool,
-    kicking_player: MaybeNumber,
+    kicking_player: Option<u8>,
 ) -> Penalized
     ensures { result ≡ Spec.penalize_players game field team verdicts excess remembered grace_over kicking_player }
 {
     let players = team.players;
     let in_excess = listed_flags(excess);
-    let none = PlayerCall::NoCall;
-    let blank = Called { call: none };
-    let mut calls = [blank; 20];
+    let mut calls = [None; 20];
     let mut kicker = kicking_player;
-    let mut i: usize = 0;
-    while i < 20 {
+    for i in 0..20 {
         let player = players[i];
         let r = remembered[i];
-        let slot = verdicts[i];
-        let verdict = slot.verdict;
+        let verdict = verdicts[i];
         let number = (i + 1) as u8;
         let asked = asked_player(
             game,
@@ -241,10 +212,8 @@ pub fn penalize_players(
             number,
             kicker,
         );
-        let call = asked.call;
-        calls[i] = Called { call };
+        calls[i] = asked.call;
         kicker = asked.kicking_player;
-        i += 1;
     }
     Penalized {
         calls,
@@ -253,16 +222,13 @@ pub fn penalize_players(
 }
 
 // What is remembered of a player once it is known whether it is in its goal area.
-fn inside_player(player: Player, margins: MaybeMargins, r: Remembered) -> Remembered
+fn inside_player(player: Player, margins: Option<Margins>, r: Remembered) -> Remembered
     ensures { result ≡ Spec.inside_player player margins r }
 {
     let penalty = player.penalty;
     let allowance = r.return_allowance;
     let unpenalized = game::is_unpenalized(penalty);
-    let inside = match margins {
-        MaybeMargins::NoMargins => false,
-        MaybeMargins::Known(m) => m.own_goal_area >= 0.0,
-    };
+    let inside = margins.is_some_and(|m| m.own_goal_area >= 0.0);
     Remembered {
         returning: r.returning,
         return_allowance: allowance,
@@ -275,21 +241,18 @@ fn inside_player(player: Player, margins: MaybeMargins, r: Remembered) -> Rememb
 // What is remembered of a side's players once it is known who is in the goal area.
 pub fn inside_players(
     team: Team,
-    margins: [PlayerMargins; 20],
+    margins: [Option<Margins>; 20],
     remembered: [Remembered; 20],
 ) -> [Remembered; 20]
     ensures { result ≡ Spec.inside_players team margins remembered }
 {
     let players = team.players;
     let mut out = remembered;
-    let mut i: usize = 0;
-    while i < 20 {
+    for i in 0..20 {
         let player = players[i];
-        let slot = margins[i];
-        let known = slot.margins;
+        let known = margins[i];
         let r = remembered[i];
         out[i] = inside_player(player, known, r);
-        i += 1;
     }
     out
 }

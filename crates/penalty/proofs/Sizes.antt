@@ -15,12 +15,11 @@ use Rattle.floats.proofs.Laws.Rounding.{sub_number, add_grows, sub_grows, finite
 use Rattle.floats.proofs.Laws.Signs.{mul_neg_left}
 use Rattle.game.specs.declared.FieldDimensions.{FieldDimensions}
 use Rattle.game.specs.declared.PlayerPose.{PlayerPose}
-use Rattle.game.specs.declared.SeenPose.{SeenPose}
-use Rattle.game.specs.declared.SeenPose.TheVariants.{Absent, Present}
 use Rattle.geometry.specs.Turned.{signed}
 use Rattle.places.proofs.Bounds.{thirty_two, thirty_two_finite, half_least, half_most, half_is_finite}
 use Rattle.places.specs.Turned.{quarter_turn, GivenHeading, from_quarter, from_negative}
 use Rattle.penalty.specs.Penalty.{edge_of, inward}
+use Rattle.std.specs.Prelude.{Option, None, Some}
 
 -- The sizes that a place is found by: the field is 4 to 64 wide, its border strip up to 64, the player's radius up to 1 and above 0. Each is a binary32, as every f32 is.
 pub record PlaceSizes (f : FieldDimensions) (p : PlayerPose) : Type 0 where
@@ -36,9 +35,9 @@ pub record PlaceSizes (f : FieldDimensions) (p : PlayerPose) : Type 0 where
   pub y_no_nan : T (not (is_nan p.y))
 
 -- the same of a pose, where there is one
-abbrev pub Fit : FieldDimensions → SeenPose → Type 0
-Fit f Absent = T true
-Fit f (Present p) = PlaceSizes f p
+abbrev pub Fit : FieldDimensions → Option PlayerPose → Type 0
+Fit f None = T true
+Fit f (Some p) = PlaceSizes f p
 
 -- ---- the constant 96, and what it comes from
 ninety_six : Float

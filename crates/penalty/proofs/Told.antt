@@ -13,14 +13,13 @@ use Rattle.game.specs.declared.Placement.{Placement}
 use Rattle.game.specs.declared.Placement.TheVariants.{NoPlace, PlayerAt}
 use Rattle.game.specs.declared.Player.{Player}
 use Rattle.game.specs.declared.PlayerPose.{PlayerPose}
-use Rattle.game.specs.declared.SeenPose.{SeenPose}
-use Rattle.game.specs.declared.SeenPose.TheVariants.{Absent, Present}
 use Rattle.game.specs.declared.Side.{Side}
 use Rattle.game.specs.declared.SideMapping.{SideMapping}
 use Rattle.game.specs.declared.Team.{Team}
 use Rattle.geometry.specs.Geometry.{side_to_sign}
 use Rattle.clearance.specs.Clearance.{Spot, occupied}
 use Rattle.penalty.specs.Penalty.{edge_of, inward, team_place, clear_from, pose_place, seen_place, place_for_penalty}
+use Rattle.std.specs.Prelude.{Option, None, Some}
 
 -- the player of one of the two teams
 pub player_told : (home away team : Team) (side which : Side) (number : ℕ) (q : Player) → side ≡ which → team ≡ team_of_side home away which → q ≡ player_numbered team number → q ≡ player_numbered (team_of_side home away side) number
@@ -32,7 +31,7 @@ heading_told y theta b h e = e ∙ ap (λ (z : Bool). cond z (neg pi *₃₂ hal
 
 module _ (sides : SideMapping) (f : FieldDimensions) (d : Float) (home away : Team) (xs ys : List Float) (side : Side) (number : ℕ) where
   -- the place of this player, by the sign of its side and where the others are
-  place : Float → SeenPose → Placement
+  place : Float → Option PlayerPose → Placement
   place sign pose = seen_place f d sign pose (occupied home away side number xs ys) side number
 
   -- lists of unlike length
@@ -49,19 +48,19 @@ module _ (sides : SideMapping) (f : FieldDimensions) (d : Float) (home away : Te
         ∙ ap (λ (z : Bool). cond z (place (side_to_sign side sides) (player_numbered (team_of_side home away side) number).pose) NoPlace) (sym (eq-eqb (length xs) (length ys) l))
 
     -- an absent player
-    pub place_absent : q.pose ≡ Absent → NoPlace ≡ place_for_penalty sides f d home away xs ys side number
+    pub place_absent : q.pose ≡ None → NoPlace ≡ place_for_penalty sides f d home away xs ys side number
     unfolding place
     place_absent e = ap (place (side_to_sign side sides)) (sym e) ∙ found
 
     -- one that is present
-    pub place_given : (p : PlayerPose) (sign y theta x : Float) → q.pose ≡ Present p → sign ≡ side_to_sign side sides → y ≡ edge_of f p → theta ≡ inward y
+    pub place_given : (p : PlayerPose) (sign y theta x : Float) → q.pose ≡ Some p → sign ≡ side_to_sign side sides → y ≡ edge_of f p → theta ≡ inward y
         → x ≡ team_place f p.radius d (clear_from sign y (occupied home away side number xs ys)) → PlayerAt side number (sign *₃₂ x) y theta ≡ place_for_penalty sides f d home away xs ys side number
     unfolding place pose_place
     place_given p sign y theta x e s a b c =
         ap (λ (z : Float). PlayerAt side number (sign *₃₂ z) y theta) c
         ∙ ap (λ (z : Float). PlayerAt side number (sign *₃₂ team_place f p.radius d (clear_from sign y spots)) y z) b
         ∙ ap (λ (z : Float). PlayerAt side number (sign *₃₂ team_place f p.radius d (clear_from sign z spots)) z (inward z)) a
-        ∙ ap (λ (z : Float). place z (Present p)) s
+        ∙ ap (λ (z : Float). place z (Some p)) s
         ∙ ap (place (side_to_sign side sides)) (sym e)
         ∙ found
       where

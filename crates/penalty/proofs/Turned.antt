@@ -16,8 +16,6 @@ use Rattle.game.specs.declared.FieldDimensions.{FieldDimensions}
 use Rattle.game.specs.declared.Placement.{Placement}
 use Rattle.game.specs.declared.Placement.TheVariants.{NoPlace}
 use Rattle.game.specs.declared.PlayerPose.{PlayerPose}
-use Rattle.game.specs.declared.SeenPose.{SeenPose}
-use Rattle.game.specs.declared.SeenPose.TheVariants.{Absent, Present}
 use Rattle.game.specs.declared.Side.{Side}
 use Rattle.game.specs.declared.Side.TheVariants.{Home, Away}
 use Rattle.game.specs.declared.SideMapping.{SideMapping}
@@ -31,6 +29,7 @@ use Rattle.clearance.specs.Clearance.{Spot, occupied, clearance}
 use Rattle.clearance.proofs.Changed.{changed_spot, occupied_changed, clearance_changed}
 use Rattle.penalty.specs.Penalty.{Found, if_enough, first_reaching, not_below, later_greater, last_greatest, or_else, chosen, start_of, lowest_of, highest_of, candidates_tried, team_place, edge_of, inward, clear_from, pose_place, seen_place, place_for_penalty}
 use Rattle.penalty.proofs.Sizes.{Fit, heading_changed}
+use Rattle.std.specs.Prelude.{Option, None, Some}
 
 -- the clearance of the team's x
 clear_changed : (a b : Bool) (sign y : Float) (spots : List Spot) (x : Float) → clear_from (signed a sign) (signed b y) (map (changed_spot a b) spots) x ≡ clear_from sign y spots x
@@ -66,9 +65,9 @@ module _ (clear clear' : Float → Float) (same : (x : Float) → clear x ≡ cl
 
 -- ---- the place, where H tells what becomes of the heading
 -- what is asked of a pose, where there is one: a y that changes its sign is no NaN, and the heading becomes what H tells
-abbrev pub Asked : Bool → (Float → Float → Type 0) → FieldDimensions → SeenPose → Type 0
-Asked b H f Absent = T true
-Asked b H f (Present p) = (b ≡ true → T (not (is_nan p.y))) × H (inward (edge_of f p)) (inward (signed b (edge_of f p)))
+abbrev pub Asked : Bool → (Float → Float → Type 0) → FieldDimensions → Option PlayerPose → Type 0
+Asked b H f None = T true
+Asked b H f (Some p) = (b ≡ true → T (not (is_nan p.y))) × H (inward (edge_of f p)) (inward (signed b (edge_of f p)))
 
 module _ (a b : Bool) (H : Float → Float → Type 0) (f : FieldDimensions) (d : Float) (side : Side) (number : ℕ) where
   -- the place of a player that is present
@@ -90,9 +89,9 @@ module _ (a b : Bool) (H : Float → Float → Type 0) (f : FieldDimensions) (d 
       taken = team_place_changed clear' clear (clear_changed a b sign (edge_of f p) spots) f p.radius d
 
   -- of one that may be absent
-  seen_place_changed : (sign : Float) (pose : SeenPose) (spots : List Spot) → Asked b H f pose → ChangedPlace a b H (seen_place f d sign pose spots side number) (seen_place f d (signed a sign) (changed_seen a b pose) (map (changed_spot a b) spots) side number)
-  seen_place_changed sign Absent spots t = none
-  seen_place_changed sign (Present p) spots t = pose_place_changed sign p spots t.0 t.1
+  seen_place_changed : (sign : Float) (pose : Option PlayerPose) (spots : List Spot) → Asked b H f pose → ChangedPlace a b H (seen_place f d sign pose spots side number) (seen_place f d (signed a sign) (changed_seen a b pose) (map (changed_spot a b) spots) side number)
+  seen_place_changed sign None spots t = none
+  seen_place_changed sign (Some p) spots t = pose_place_changed sign p spots t.0 t.1
 
   -- a place, or none
   chosen_changed : (t : Bool) {p p' : Placement} → ChangedPlace a b H p p' → ChangedPlace a b H (cond t p NoPlace) (cond t p' NoPlace)
@@ -114,9 +113,9 @@ module _ (a b : Bool) (H : Float → Float → Type 0) (f : FieldDimensions) (d 
         (chosen_changed (eqb (length xs) (length ys)) (seen_place_changed (side_to_sign side sides) (player_numbered (team_of_side home away side) number).pose (occupied home away side number xs ys) t))
 
 -- ---- with sizes that are accepted
-asked_of : (a b : Bool) (f : FieldDimensions) (pose : SeenPose) → Fit f pose → Asked b (GivenHeading a b) f pose
-asked_of a b f Absent s = tt
-asked_of a b f (Present p) s = (λ e. s.y_no_nan, heading_changed a b f p s)
+asked_of : (a b : Bool) (f : FieldDimensions) (pose : Option PlayerPose) → Fit f pose → Asked b (GivenHeading a b) f pose
+asked_of a b f None s = tt
+asked_of a b f (Some p) s = (λ e. s.y_no_nan, heading_changed a b f p s)
 
 -- the given heading changes with the place
 pub sized_place_changed : (a b : Bool) (sides : SideMapping) (f : FieldDimensions) (d : Float) (home away : Team) (xs ys : List Float) (side : Side) (number : ℕ) → Fit f (player_numbered (team_of_side home away side) number).pose

@@ -1,5 +1,5 @@
 -- Where a penalized player is placed: next to a touchline, at the first candidate with enough space, or at the one with the most. Definitions only.
-use Rattle.std.specs.Prelude.{Bool, true, false, cond, List, [], ◌∷◌, eqb, length, Float}
+use Rattle.std.specs.Prelude.{Bool, true, false, cond, List, [], ◌∷◌, eqb, length, Float, Option, None, Some}
 use Prim.Native.Nat.{ℕ, Ordering}
 use Rattle.std.specs.Float.{nan}
 use Rattle.std.specs.Float.Ieee.{neg, lt, le}
@@ -10,8 +10,6 @@ use Rattle.game.specs.declared.FieldDimensions.{FieldDimensions}
 use Rattle.game.specs.declared.Placement.{Placement}
 use Rattle.game.specs.declared.Placement.TheVariants.{NoPlace, PlayerAt}
 use Rattle.game.specs.declared.PlayerPose.{PlayerPose}
-use Rattle.game.specs.declared.SeenPose.{SeenPose}
-use Rattle.game.specs.declared.SeenPose.TheVariants.{Absent, Present}
 use Rattle.game.specs.declared.Side.{Side}
 use Rattle.game.specs.declared.SideMapping.{SideMapping}
 use Rattle.game.specs.declared.Team.{Team}
@@ -97,9 +95,9 @@ pose_place f d sign p spots side number =
     PlayerAt side number (sign *₃₂ team_place f p.radius d (clear_from sign (edge_of f p) spots)) (edge_of f p) (inward (edge_of f p))
 
 -- none for an absent player
-abbrev pub seen_place : FieldDimensions → Float → Float → SeenPose → List Spot → Side → ℕ → Placement
-seen_place f d sign Absent spots side number = NoPlace
-seen_place f d sign (Present p) spots side number = pose_place f d sign p spots side number
+abbrev pub seen_place : FieldDimensions → Float → Float → Option PlayerPose → List Spot → Side → ℕ → Placement
+seen_place f d sign None spots side number = NoPlace
+seen_place f d sign (Some p) spots side number = pose_place f d sign p spots side number
 
 -- the place of the player with this number of a side; none where xs and ys differ in length, which is refused before
 unfoldable pub place_for_penalty : SideMapping → FieldDimensions → Float → Team → Team → List Float → List Float → Side → ℕ → Placement

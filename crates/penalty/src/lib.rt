@@ -7,8 +7,9 @@ ghost use Rattle.clearance.specs.Clearance.{occupied};
 ghost use Rattle.penalty.specs.Penalty as Spec;
 ghost use Rattle.penalty.specs.Walk as Walk;
 
-use floats::{Order, PI};
-use game::{FieldDimensions, Game, Placement, SeenPose, Side, Team};
+use floats::PI;
+use game::{FieldDimensions, Game, Placement, Side, Team};
+use std::cmp::Ordering;
 
 // The candidate that is taken so far, its clearance, and whether that reaches the distance.
 #[derive(Clone, Copy)]
@@ -38,9 +39,9 @@ fn considered(choice: Choice, distance: f32, x: f32, c: f32) -> Choice
         clearance: c,
     };
     match floats::total_cmp(c, choice.clearance) {
-        Order::Less => choice,
-        Order::Equal => next,
-        Order::Greater => next,
+        Ordering::Less => choice,
+        Ordering::Equal => next,
+        Ordering::Greater => next,
     }
 }
 
@@ -92,13 +93,11 @@ fn walk<'a>(
     ensures { result ≡ fold_to tries (Walk.after_try search (occupied home away side number xs.now ys.now)) start }
 {
     let mut choice = start;
-    let mut j: u16 = 0;
-    while j < tries {
+    for j in 0..tries {
         if choice.reached {
             return choice;
         }
         choice = after_try(choice, search, home, away, side, number, xs, ys, j);
-        j += 1;
     }
     choice
 }
@@ -166,8 +165,8 @@ pub fn place_for_penalty<'a>(
     };
     let pose = player.pose;
     match pose {
-        SeenPose::Absent => Placement::NoPlace,
-        SeenPose::Present(p) => {
+        None => Placement::NoPlace,
+        Some(p) => {
             let sides = game.sides;
             let sign = geometry::side_to_sign(side, sides);
             let y = floats::copysign(field.width * 0.5 + field.border_strip_width - p.radius, p.y);

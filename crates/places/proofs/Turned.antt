@@ -15,15 +15,9 @@ use Rattle.game.specs.Game.{same_side, is_shootout, is_unpenalized}
 use Rattle.game.specs.declared.Ball.{Ball}
 use Rattle.game.specs.declared.FieldDimensions.{FieldDimensions}
 use Rattle.game.specs.declared.Game.{Game}
-use Rattle.game.specs.declared.MaybeNumber.{MaybeNumber}
-use Rattle.game.specs.declared.MaybeNumber.TheVariants.{NoNumber, Number as Numbered}
-use Rattle.game.specs.declared.MaybeSide.{MaybeSide}
-use Rattle.game.specs.declared.MaybeSide.TheVariants.{NoSide, Of}
 use Rattle.game.specs.declared.Penalty.{Penalty}
 use Rattle.game.specs.declared.Player.{Player}
 use Rattle.game.specs.declared.PlayerPose.{PlayerPose}
-use Rattle.game.specs.declared.SeenPose.{SeenPose}
-use Rattle.game.specs.declared.SeenPose.TheVariants.{Absent, Present}
 use Rattle.game.specs.declared.SetPlay.{SetPlay}
 use Rattle.game.specs.declared.SetPlay.TheVariants.{NoSetPlay, KickOff, DirectFreeKick, IndirectFreeKick, PenaltyKick, ThrowIn, GoalKick, CornerKick}
 use Rattle.game.specs.declared.Side.{Side}
@@ -38,6 +32,7 @@ use Rattle.places.specs.Places.{goal_line_x, touchline_y, area_line_x, area_line
 use Rattle.places.specs.Turned.{GivenHeading, from_zero, from_pi, ChangedPlace, none, ball, player}
 use Rattle.game.specs.declared.Placement.{Placement}
 use Rattle.places.proofs.Signs.{place_changed, copysign_changed, clamp_changed, zero_changed}
+use Rattle.std.specs.Prelude.{Option, None, Some}
 
 -- ---- what is asked
 -- x and y of the ball are numbers
@@ -46,9 +41,9 @@ pub record Located (b : Ball) : Type 0 where
   pub y_number : Number binary32 b.y
 
 -- the y of a pose, where there is one, is a binary32, as every f32 is
-abbrev pub FitsY : SeenPose → Type 0
-FitsY Absent = T true
-FitsY (Present p) = T (fits binary32 p.y)
+abbrev pub FitsY : Option PlayerPose → Type 0
+FitsY None = T true
+FitsY (Some p) = T (fits binary32 p.y)
 
 -- ---- the ball
 module _ (a b : Bool) (H : Float → Float → Type 0) where
@@ -65,11 +60,11 @@ module _ (a b : Bool) (H : Float → Float → Type 0) where
     area_free_kick_changed o s =
         rw (area_changed o s) (chosen (in_opponent_area f o s) (ball (inl (place_changed a s (area_line_x f f.penalty_area_length))) (inl refl)) (ball (inl refl) (inl refl)))
 
-    free_kick_changed : (o : Ball) (kicking : MaybeSide) (sides : SideMapping) → ChangedPlace a b H (free_kick_place f o kicking sides) (free_kick_place f (changed_ball a b o) kicking (changed_ends a sides))
-    free_kick_changed o NoSide sides = ball (inl refl) (inl refl)
-    free_kick_changed o (Of side) sides = rw (sign_changed a side sides) (area_free_kick_changed o (side_to_sign side sides))
+    free_kick_changed : (o : Ball) (kicking : Option Side) (sides : SideMapping) → ChangedPlace a b H (free_kick_place f o kicking sides) (free_kick_place f (changed_ball a b o) kicking (changed_ends a sides))
+    free_kick_changed o None sides = ball (inl refl) (inl refl)
+    free_kick_changed o (Some side) sides = rw (sign_changed a side sides) (area_free_kick_changed o (side_to_sign side sides))
 
-    restart_changed : (play : SetPlay) (kicking : MaybeSide) (sides : SideMapping) (o : Ball) → Located o → ChangedPlace a b H (restart_place play kicking sides f o) (restart_place play kicking (changed_ends a sides) f (changed_ball a b o))
+    restart_changed : (play : SetPlay) (kicking : Option Side) (sides : SideMapping) (o : Ball) → Located o → ChangedPlace a b H (restart_place play kicking sides f o) (restart_place play kicking (changed_ends a sides) f (changed_ball a b o))
     restart_changed NoSetPlay kicking sides o n = none
     restart_changed KickOff kicking sides o n = none
     restart_changed DirectFreeKick kicking sides o n = ball (inl refl) (inl refl)
@@ -89,14 +84,14 @@ module _ (a b : Bool) (H : Float → Float → Type 0) where
     mark_changed : (side : Side) (sides : SideMapping) → ChangedPlace a b H (mark_place f side sides) (mark_place f side (changed_ends a sides))
     mark_changed side sides = ball (inl (ap (λ (s : Float). s *₃₂ mark_x f) (sign_changed a side sides) ∙ place_changed a (side_to_sign side sides) (mark_x f))) (zero_changed b)
 
-    mark_or_changed : (kicking : MaybeSide) (sides : SideMapping) {p q : Placement} → ChangedPlace a b H p q → ChangedPlace a b H (mark_or f kicking sides p) (mark_or f kicking (changed_ends a sides) q)
-    mark_or_changed NoSide sides c = c
-    mark_or_changed (Of side) sides c = mark_changed side sides
+    mark_or_changed : (kicking : Option Side) (sides : SideMapping) {p q : Placement} → ChangedPlace a b H p q → ChangedPlace a b H (mark_or f kicking sides p) (mark_or f kicking (changed_ends a sides) q)
+    mark_or_changed None sides c = c
+    mark_or_changed (Some side) sides c = mark_changed side sides
 
     center_changed : ChangedPlace a b H (center_place f) (center_place f)
     center_changed = ball (zero_changed a) (zero_changed b)
 
-    set_play_changed : (play : SetPlay) (kicking : MaybeSide) (sides : SideMapping) → ChangedPlace a b H (set_play_place play f kicking sides) (set_play_place play f kicking (changed_ends a sides))
+    set_play_changed : (play : SetPlay) (kicking : Option Side) (sides : SideMapping) → ChangedPlace a b H (set_play_place play f kicking sides) (set_play_place play f kicking (changed_ends a sides))
     set_play_changed NoSetPlay kicking sides = none
     set_play_changed KickOff kicking sides = center_changed
     set_play_changed DirectFreeKick kicking sides = none
@@ -112,10 +107,10 @@ module _ (a b : Bool) (H : Float → Float → Type 0) where
 
     -- ---- a player in a penalty shot, where H tells what becomes of the heading
     module _ (turns : (side : Side) (sides : SideMapping) → H (heading (side_to_sign side sides)) (heading (side_to_sign side (changed_ends a sides)))) where
-      seen_shot_changed : (kicking : MaybeSide) (pose : SeenPose) (sides : SideMapping) (side : Side) (number : ℕ) → ChangedPlace a b H (seen_shot_place kicking pose sides f side number) (seen_shot_place kicking (changed_seen a b pose) (changed_ends a sides) f side number)
-      seen_shot_changed NoSide pose sides side number = none
-      seen_shot_changed (Of kicking) Absent sides side number = none
-      seen_shot_changed (Of kicking) (Present p) sides side number =
+      seen_shot_changed : (kicking : Option Side) (pose : Option PlayerPose) (sides : SideMapping) (side : Side) (number : ℕ) → ChangedPlace a b H (seen_shot_place kicking pose sides f side number) (seen_shot_place kicking (changed_seen a b pose) (changed_ends a sides) f side number)
+      seen_shot_changed None pose sides side number = none
+      seen_shot_changed (Some kicking) None sides side number = none
+      seen_shot_changed (Some kicking) (Some p) sides side number =
           let x = shot_x f (same_side side kicking) in
           player (inl (ap (λ (s : Float). s *₃₂ x) (sign_changed a side sides) ∙ place_changed a (side_to_sign side sides) x)) (zero_changed b) (turns side sides)
 
@@ -138,13 +133,13 @@ module _ (a b : Bool) (H : Float → Float → Type 0) (kept : (theta : Float) �
   checked_changed : (number : ℕ) (s : Float) (unpenalized : Bool) (p : PlayerPose) → T (fits binary32 p.y) → ChangedPlace a b H (checked_keeper_place f side number s unpenalized p) (checked_keeper_place f side number (signed a s) unpenalized (changed_pose a b p))
   checked_changed number s unpenalized p n = rw (on_line_changed s p) (chosen a b H (unpenalized && not (is_on_own_goal_line (team_x s p) p f)) (keeper_changed number s p n) none)
 
-  seen_keeper_changed : (pose : SeenPose) (sides : SideMapping) (number : ℕ) (status : Penalty) → FitsY pose → ChangedPlace a b H (seen_keeper_place pose sides f side number status) (seen_keeper_place (changed_seen a b pose) (changed_ends a sides) f side number status)
-  seen_keeper_changed Absent sides number status n = none
-  seen_keeper_changed (Present p) sides number status n = rw (sign_changed a side sides) (checked_changed number (side_to_sign side sides) (is_unpenalized status) p n)
+  seen_keeper_changed : (pose : Option PlayerPose) (sides : SideMapping) (number : ℕ) (status : Penalty) → FitsY pose → ChangedPlace a b H (seen_keeper_place pose sides f side number status) (seen_keeper_place (changed_seen a b pose) (changed_ends a sides) f side number status)
+  seen_keeper_changed None sides number status n = none
+  seen_keeper_changed (Some p) sides number status n = rw (sign_changed a side sides) (checked_changed number (side_to_sign side sides) (is_unpenalized status) p n)
 
-  maybe_keeper_changed : (goalkeeper : MaybeNumber) (sides : SideMapping) (t : Team) → ((number : ℕ) → FitsY (player_numbered t number).pose) → ChangedPlace a b H (maybe_keeper_place goalkeeper sides f side t) (maybe_keeper_place goalkeeper (changed_ends a sides) f side (changed_team a b t))
-  maybe_keeper_changed NoNumber sides t n = none
-  maybe_keeper_changed (Numbered number) sides t n =
+  maybe_keeper_changed : (goalkeeper : Option ℕ) (sides : SideMapping) (t : Team) → ((number : ℕ) → FitsY (player_numbered t number).pose) → ChangedPlace a b H (maybe_keeper_place goalkeeper sides f side t) (maybe_keeper_place goalkeeper (changed_ends a sides) f side (changed_team a b t))
+  maybe_keeper_changed None sides t n = none
+  maybe_keeper_changed (Some number) sides t n =
       rw (numbered_changed a b t number) (seen_keeper_changed (player_numbered t number).pose sides number (player_numbered t number).penalty (n number))
 
   pub penalty_goalkeeper_changed : (g : Game) (t : Team) → ((number : ℕ) → FitsY (player_numbered t number).pose) → ChangedPlace a b H (penalty_goalkeeper_place g f side t) (penalty_goalkeeper_place (changed_game a g) f side (changed_team a b t))

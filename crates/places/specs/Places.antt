@@ -1,5 +1,5 @@
 -- Where the ball and the players are placed: binary32, each operation rounded once. Definitions only.
-use Rattle.std.specs.Prelude.{Bool, true, false, not, cond, ◌&&◌, ℕ, Float}
+use Rattle.std.specs.Prelude.{Bool, true, false, not, cond, ◌&&◌, ℕ, Float, Option, None, Some}
 use Rattle.std.specs.Float.Ieee.{neg, lt, le}
 use Rattle.floats.specs.Arithmetic.{◌+₃₂◌, ◌-₃₂◌, ◌*₃₂◌, zero32, half, pi}
 use Rattle.floats.specs.Leaves.{abs, copysign, clamp, maximum_number}
@@ -8,15 +8,9 @@ use Rattle.game.specs.Players.{player_numbered}
 use Rattle.game.specs.declared.Ball.{Ball}
 use Rattle.game.specs.declared.FieldDimensions.{FieldDimensions}
 use Rattle.game.specs.declared.Game.{Game}
-use Rattle.game.specs.declared.MaybeNumber.{MaybeNumber}
-use Rattle.game.specs.declared.MaybeNumber.TheVariants.{NoNumber, Number}
-use Rattle.game.specs.declared.MaybeSide.{MaybeSide}
-use Rattle.game.specs.declared.MaybeSide.TheVariants.{NoSide, Of}
 use Rattle.game.specs.declared.Penalty.{Penalty}
 use Rattle.game.specs.declared.Player.{Player}
 use Rattle.game.specs.declared.PlayerPose.{PlayerPose}
-use Rattle.game.specs.declared.SeenPose.{SeenPose}
-use Rattle.game.specs.declared.SeenPose.TheVariants.{Absent, Present}
 use Rattle.game.specs.declared.SetPlay.{SetPlay}
 use Rattle.game.specs.declared.SetPlay.TheVariants.{NoSetPlay, KickOff, DirectFreeKick, IndirectFreeKick, PenaltyKick, ThrowIn, GoalKick, CornerKick}
 use Rattle.game.specs.declared.Side.{Side}
@@ -69,12 +63,12 @@ abbrev pub area_free_kick_place : FieldDimensions → Ball → Float → Placeme
 area_free_kick_place f b sign = cond (in_opponent_area f b sign) (BallAt (sign *₃₂ area_line_x f f.penalty_area_length) b.y f.ball_radius) (own_place f b)
 
 -- an indirect free kick, where the ball is if it is no side's
-abbrev pub free_kick_place : FieldDimensions → Ball → MaybeSide → SideMapping → Placement
-free_kick_place f b NoSide sides = own_place f b
-free_kick_place f b (Of side) sides = area_free_kick_place f b (side_to_sign side sides)
+abbrev pub free_kick_place : FieldDimensions → Ball → Option Side → SideMapping → Placement
+free_kick_place f b None sides = own_place f b
+free_kick_place f b (Some side) sides = area_free_kick_place f b (side_to_sign side sides)
 
 -- by the set play
-abbrev pub restart_place : SetPlay → MaybeSide → SideMapping → FieldDimensions → Ball → Placement
+abbrev pub restart_place : SetPlay → Option Side → SideMapping → FieldDimensions → Ball → Placement
 restart_place NoSetPlay kicking sides f b = NoPlace
 restart_place KickOff kicking sides f b = NoPlace
 restart_place DirectFreeKick kicking sides f b = own_place f b
@@ -98,12 +92,12 @@ abbrev pub center_place : FieldDimensions → Placement
 center_place f = BallAt zero32 zero32 f.ball_radius
 
 -- the mark of the kicking side, another place without one
-abbrev pub mark_or : FieldDimensions → MaybeSide → SideMapping → Placement → Placement
-mark_or f NoSide sides other = other
-mark_or f (Of side) sides other = mark_place f side sides
+abbrev pub mark_or : FieldDimensions → Option Side → SideMapping → Placement → Placement
+mark_or f None sides other = other
+mark_or f (Some side) sides other = mark_place f side sides
 
 -- outside a shoot-out only kick-offs and penalty kicks are placed in Set; without a kicking side both are at the center mark
-abbrev pub set_play_place : SetPlay → FieldDimensions → MaybeSide → SideMapping → Placement
+abbrev pub set_play_place : SetPlay → FieldDimensions → Option Side → SideMapping → Placement
 set_play_place NoSetPlay f kicking sides = NoPlace
 set_play_place KickOff f kicking sides = center_place f
 set_play_place DirectFreeKick f kicking sides = NoPlace
@@ -132,10 +126,10 @@ abbrev pub shot_place : SideMapping → FieldDimensions → Side → ℕ → Sid
 shot_place sides f side number kicking = PlayerAt side number (side_to_sign side sides *₃₂ shot_x f (same_side side kicking)) zero32 (heading (side_to_sign side sides))
 
 -- none without a kicking side and for an absent player
-abbrev pub seen_shot_place : MaybeSide → SeenPose → SideMapping → FieldDimensions → Side → ℕ → Placement
-seen_shot_place NoSide pose sides f side number = NoPlace
-seen_shot_place (Of kicking) Absent sides f side number = NoPlace
-seen_shot_place (Of kicking) (Present p) sides f side number = shot_place sides f side number kicking
+abbrev pub seen_shot_place : Option Side → Option PlayerPose → SideMapping → FieldDimensions → Side → ℕ → Placement
+seen_shot_place None pose sides f side number = NoPlace
+seen_shot_place (Some kicking) None sides f side number = NoPlace
+seen_shot_place (Some kicking) (Some p) sides f side number = shot_place sides f side number kicking
 
 -- the place of a player that is selected for a penalty shot
 unfoldable pub penalty_shot_place : Game → FieldDimensions → Side → ℕ → Player → Placement
@@ -155,18 +149,18 @@ abbrev pub checked_keeper_place : FieldDimensions → Side → ℕ → Float →
 checked_keeper_place f side number sign unpenalized p = cond (unpenalized && not (is_on_own_goal_line (team_x sign p) p f)) (keeper_place f side number sign p) NoPlace
 
 -- none for an absent one
-abbrev pub seen_keeper_place : SeenPose → SideMapping → FieldDimensions → Side → ℕ → Penalty → Placement
-seen_keeper_place Absent sides f side number status = NoPlace
-seen_keeper_place (Present p) sides f side number status = checked_keeper_place f side number (side_to_sign side sides) (is_unpenalized status) p
+abbrev pub seen_keeper_place : Option PlayerPose → SideMapping → FieldDimensions → Side → ℕ → Penalty → Placement
+seen_keeper_place None sides f side number status = NoPlace
+seen_keeper_place (Some p) sides f side number status = checked_keeper_place f side number (side_to_sign side sides) (is_unpenalized status) p
 
 -- the place of the player with this number
 abbrev pub numbered_keeper_place : ℕ → SideMapping → FieldDimensions → Side → Team → Placement
 numbered_keeper_place number sides f side t = seen_keeper_place (player_numbered t number).pose sides f side number (player_numbered t number).penalty
 
 -- none without a goalkeeper
-abbrev pub maybe_keeper_place : MaybeNumber → SideMapping → FieldDimensions → Side → Team → Placement
-maybe_keeper_place NoNumber sides f side t = NoPlace
-maybe_keeper_place (Number number) sides f side t = numbered_keeper_place number sides f side t
+abbrev pub maybe_keeper_place : Option ℕ → SideMapping → FieldDimensions → Side → Team → Placement
+maybe_keeper_place None sides f side t = NoPlace
+maybe_keeper_place (Some number) sides f side t = numbered_keeper_place number sides f side t
 
 -- the place of a side's goalkeeper when Set is entered for a penalty kick
 unfoldable pub penalty_goalkeeper_place : Game → FieldDimensions → Side → Team → Placement

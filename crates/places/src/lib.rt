@@ -6,22 +6,21 @@ ghost use Rattle.places.specs.Places as Spec;
 
 use floats::PI;
 use game::{
-    Ball, FieldDimensions, Game, MaybeNumber, MaybeSide, Placement, Player, PlayerPose, SeenPose,
-    SetPlay, Side, SideMapping, Team,
+    Ball, FieldDimensions, Game, Placement, Player, PlayerPose, SetPlay, Side, SideMapping, Team,
 };
 
 // The ball's place in an indirect free kick. Inside the opponents' penalty area it goes back to the line parallel to the goal line.
 fn free_kick_place(
     field: FieldDimensions,
     ball: Ball,
-    kicking_side: MaybeSide,
+    kicking_side: Option<Side>,
     sides: SideMapping,
 ) -> Placement
     ensures { result ≡ Spec.free_kick_place field ball kicking_side sides }
 {
     match kicking_side {
-        MaybeSide::NoSide => Placement::BallAt(ball.x, ball.y, field.ball_radius),
-        MaybeSide::Of(side) => {
+        None => Placement::BallAt(ball.x, ball.y, field.ball_radius),
+        Some(side) => {
             let sign = geometry::side_to_sign(side, sides);
             let y = floats::abs(ball.y);
             let line_x = field.length * 0.5 - field.penalty_area_length + field.line_width * 0.5;
@@ -72,15 +71,15 @@ pub fn place_ball_at_restart(game: Game, field: FieldDimensions, ball: Ball) -> 
 // The ball on the mark of the kicking side, and another place without one.
 fn mark_or(
     field: FieldDimensions,
-    kicking_side: MaybeSide,
+    kicking_side: Option<Side>,
     sides: SideMapping,
     other: Placement,
 ) -> Placement
     ensures { result ≡ Spec.mark_or field kicking_side sides other }
 {
     match kicking_side {
-        MaybeSide::NoSide => other,
-        MaybeSide::Of(side) => {
+        None => other,
+        Some(side) => {
             let sign = geometry::side_to_sign(side, sides);
             let mark_x = field.length * 0.5 - field.penalty_mark_distance;
             Placement::BallAt(sign * mark_x, 0.0, field.ball_radius)
@@ -157,10 +156,10 @@ pub fn place_for_penalty_shot(
     let sides = game.sides;
     let pose = player.pose;
     match kicking_side {
-        MaybeSide::NoSide => Placement::NoPlace,
-        MaybeSide::Of(kicker) => match pose {
-            SeenPose::Absent => Placement::NoPlace,
-            SeenPose::Present(_) => shot_place(sides, field, side, number, kicker),
+        None => Placement::NoPlace,
+        Some(kicker) => match pose {
+            None => Placement::NoPlace,
+            Some(_) => shot_place(sides, field, side, number, kicker),
         },
     }
 }
@@ -206,16 +205,16 @@ pub fn place_penalty_goalkeeper(
     let goalkeeper = team.goalkeeper;
     let sides = game.sides;
     match goalkeeper {
-        MaybeNumber::NoNumber => Placement::NoPlace,
-        MaybeNumber::Number(number) => {
+        None => Placement::NoPlace,
+        Some(number) => {
             let player = game::player_numbered(team, number);
             let pose = player.pose;
             let penalty = player.penalty;
             let sign = geometry::side_to_sign(side, sides);
             let unpenalized = game::is_unpenalized(penalty);
             match pose {
-                SeenPose::Absent => Placement::NoPlace,
-                SeenPose::Present(p) => keeper_place(field, side, number, sign, unpenalized, p),
+                None => Placement::NoPlace,
+                Some(p) => keeper_place(field, side, number, sign, unpenalized, p),
             }
         }
     }

@@ -27,8 +27,6 @@ use Rattle.game.specs.declared.FieldDimensions.{FieldDimensions}
 use Rattle.game.specs.declared.Placement.{Placement}
 use Rattle.game.specs.declared.Placement.TheVariants.{NoPlace, PlayerAt}
 use Rattle.game.specs.declared.PlayerPose.{PlayerPose}
-use Rattle.game.specs.declared.SeenPose.{SeenPose}
-use Rattle.game.specs.declared.SeenPose.TheVariants.{Absent, Present}
 use Rattle.game.specs.declared.Side.{Side}
 use Rattle.game.specs.declared.Side.TheVariants.{Home, Away}
 use Rattle.game.specs.declared.Situation.{Situation}
@@ -42,6 +40,7 @@ use Rattle.penalty.proofs.Turned.{team_place_changed}
 use Rattle.decision.specs.Decision.{side_decision, kicking_player, side_margins, ball_called, place_for, wished_place, decision_of}
 use Rattle.game.specs.declared.Decision.{Decision}
 use Rattle.places_hold.specs.Claims.{unsigned_zero, EarlierZerosClaim}
+use Rattle.std.specs.Prelude.{Option, None, Some}
 
 -- ---- a value, and the same without the sign of a zero
 no_nan : (x : Float) → eq x zero32 ≡ true → is_nan x ≡ false
@@ -147,10 +146,10 @@ module _ (xs ys : List Float) (fx : (i : ℕ) → T (fits binary32 (get_or xs i 
         parted us vs = map-append g h (w ++ earlier_spots us vs) ∙ ap (λ (t : List Float). map g h ++ t) (map-append g w (earlier_spots us vs))
 
     -- ---- the place of a penalised player
-    seen_same : (f : FieldDimensions) (d sign : Float) (pose : SeenPose) → seen_place f d sign pose (occupied home away side number xs' ys') side number ≡ seen_place f d sign pose (occupied home away side number xs ys) side number
+    seen_same : (f : FieldDimensions) (d sign : Float) (pose : Option PlayerPose) → seen_place f d sign pose (occupied home away side number xs' ys') side number ≡ seen_place f d sign pose (occupied home away side number xs ys) side number
     unfolding pose_place
-    seen_same f d sign Absent = refl
-    seen_same f d sign (Present p) =
+    seen_same f d sign None = refl
+    seen_same f d sign (Some p) =
         ap (λ (z : Float). PlayerAt side number (sign *₃₂ z) (edge_of f p) (inward (edge_of f p)))
         (team_place_changed (clear_from sign (edge_of f p) (occupied home away side number xs' ys')) (clear_from sign (edge_of f p) (occupied home away side number xs ys)) (λ x. clearance_same (sign *₃₂ x) (edge_of f p)) f p.radius d)
 

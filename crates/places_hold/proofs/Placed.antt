@@ -18,16 +18,10 @@ use Rattle.game.specs.Game.{same_side, is_shootout, is_unpenalized}
 use Rattle.game.specs.Players.{player_at, player_numbered, team_of_side, team_of}
 use Rattle.game.specs.declared.Ball.{Ball}
 use Rattle.game.specs.declared.FieldDimensions.{FieldDimensions}
-use Rattle.game.specs.declared.MaybeNumber.{MaybeNumber}
-use Rattle.game.specs.declared.MaybeNumber.TheVariants.{NoNumber, Number}
-use Rattle.game.specs.declared.MaybeSide.{MaybeSide}
-use Rattle.game.specs.declared.MaybeSide.TheVariants.{NoSide, Of}
 use Rattle.game.specs.declared.Penalty.{Penalty}
 use Rattle.game.specs.declared.Placement.{Placement}
 use Rattle.game.specs.declared.Placement.TheVariants.{NoPlace, BallAt, PlayerAt}
 use Rattle.game.specs.declared.PlayerPose.{PlayerPose}
-use Rattle.game.specs.declared.SeenPose.{SeenPose}
-use Rattle.game.specs.declared.SeenPose.TheVariants.{Absent, Present}
 use Rattle.game.specs.declared.SetPlay.{SetPlay}
 use Rattle.game.specs.declared.SetPlay.TheVariants.{NoSetPlay, KickOff, DirectFreeKick, IndirectFreeKick, PenaltyKick, ThrowIn, GoalKick, CornerKick}
 use Rattle.game.specs.declared.Side.{Side}
@@ -52,6 +46,7 @@ use Rattle.places_hold.specs.Claims.{Placed, nowhere, ball_at, player_at_holds, 
 use Rattle.places_hold.proofs.Under.{Under, under_finite, coordinate_under, radius_under, cond_finite, clamp_finite, sign_finite, signed_finite}
 use Rattle.places_hold.proofs.Candidates.{chosen_finite, candidates_finite}
 use Rattle.places_hold.proofs.Lines.{goal_line_finite, touchline_finite, area_x_finite, area_y_finite, mark_finite, ball_finite, post_finite, edge_finite, lowest_finite}
+use Rattle.std.specs.Prelude.{Option, None, Some}
 
 chosen : (b : Bool) {p q : Placement} → Placed p → Placed q → Placed (cond b p q)
 chosen true hp hq = hp
@@ -80,13 +75,13 @@ module _ (f : FieldDimensions) (fit : SizesFit f) (r : Ranges f) where
     touchline : Finite binary32 (copysign (touchline_y f) b.y)
     touchline = sign_finite (negative b.y) (touchline_y f) (touchline_finite f fit r)
 
-    free_kick_placed : (kicking : MaybeSide) (sides : SideMapping) → Placed (free_kick_place f b kicking sides)
-    free_kick_placed NoSide sides = ball_at fx fy z
-    free_kick_placed (Of side) sides =
+    free_kick_placed : (kicking : Option Side) (sides : SideMapping) → Placed (free_kick_place f b kicking sides)
+    free_kick_placed None sides = ball_at fx fy z
+    free_kick_placed (Some side) sides =
         chosen (in_opponent_area f b (side_to_sign side sides))
         (ball_at (signed_finite side sides (area_line_x f f.penalty_area_length) (area_x_finite f fit r f.penalty_area_length fit.penalty_area_length r.penalty_area_length_range)) fy z) (ball_at fx fy z)
 
-    restart_placed : (play : SetPlay) (kicking : MaybeSide) (sides : SideMapping) → Placed (restart_place play kicking sides f b)
+    restart_placed : (play : SetPlay) (kicking : Option Side) (sides : SideMapping) → Placed (restart_place play kicking sides f b)
     restart_placed NoSetPlay kicking sides = nowhere
     restart_placed KickOff kicking sides = nowhere
     restart_placed DirectFreeKick kicking sides = ball_at fx fy z
@@ -100,11 +95,11 @@ module _ (f : FieldDimensions) (fit : SizesFit f) (r : Ranges f) where
         (sign_finite (negative b.y) (area_line_y f f.goal_area_width) (area_y_finite f fit r f.goal_area_width fit.goal_area_width r.goal_area_width_range)) z
     restart_placed CornerKick kicking sides = ball_at (sign_finite (negative b.x) (goal_line_x f) (goal_line_finite f fit r)) touchline z
 
-  mark_placed : (kicking : MaybeSide) (sides : SideMapping) {other : Placement} → Placed other → Placed (mark_or f kicking sides other)
-  mark_placed NoSide sides h = h
-  mark_placed (Of side) sides h = ball_at (signed_finite side sides (mark_x f) (mark_finite f fit r)) zero_finite z
+  mark_placed : (kicking : Option Side) (sides : SideMapping) {other : Placement} → Placed other → Placed (mark_or f kicking sides other)
+  mark_placed None sides h = h
+  mark_placed (Some side) sides h = ball_at (signed_finite side sides (mark_x f) (mark_finite f fit r)) zero_finite z
 
-  set_play_placed : (play : SetPlay) (kicking : MaybeSide) (sides : SideMapping) → Placed (set_play_place play f kicking sides)
+  set_play_placed : (play : SetPlay) (kicking : Option Side) (sides : SideMapping) → Placed (set_play_place play f kicking sides)
   set_play_placed NoSetPlay kicking sides = nowhere
   set_play_placed KickOff kicking sides = ball_at zero_finite zero_finite z
   set_play_placed DirectFreeKick kicking sides = nowhere
@@ -119,15 +114,15 @@ module _ (f : FieldDimensions) (fit : SizesFit f) (r : Ranges f) where
   shot_finite true = area_x_finite f fit r f.penalty_area_length fit.penalty_area_length r.penalty_area_length_range
   shot_finite false = neg_finite binary32 (goal_line_x f) (goal_line_finite f fit r)
 
-  shot_placed : (kicking : MaybeSide) (pose : SeenPose) (sides : SideMapping) (side : Side) (number : ℕ) → is_player_number number ≡ true → Placed (seen_shot_place kicking pose sides f side number)
-  shot_placed NoSide pose sides side number h = nowhere
-  shot_placed (Of k) Absent sides side number h = nowhere
-  shot_placed (Of k) (Present p) sides side number h = player_at_holds h (signed_finite side sides (shot_x f (same_side side k)) (shot_finite (same_side side k))) zero_finite (heading_finite (side_to_sign side sides))
+  shot_placed : (kicking : Option Side) (pose : Option PlayerPose) (sides : SideMapping) (side : Side) (number : ℕ) → is_player_number number ≡ true → Placed (seen_shot_place kicking pose sides f side number)
+  shot_placed None pose sides side number h = nowhere
+  shot_placed (Some k) None sides side number h = nowhere
+  shot_placed (Some k) (Some p) sides side number h = player_at_holds h (signed_finite side sides (shot_x f (same_side side k)) (shot_finite (same_side side k))) zero_finite (heading_finite (side_to_sign side sides))
 
-  keeper_placed : (pose : SeenPose) → SeenFits pose → seen_fits pose ≡ true → (sides : SideMapping) (side : Side) (number : ℕ) (penalty : Penalty) → is_player_number number ≡ true → Placed (seen_keeper_place pose sides f side number penalty)
+  keeper_placed : (pose : Option PlayerPose) → SeenFits pose → seen_fits pose ≡ true → (sides : SideMapping) (side : Side) (number : ℕ) (penalty : Penalty) → is_player_number number ≡ true → Placed (seen_keeper_place pose sides f side number penalty)
   unfolding keeper_place pose_fits
-  keeper_placed Absent q e sides side number penalty h = nowhere
-  keeper_placed (Present p) q e sides side number penalty h =
+  keeper_placed None q e sides side number penalty h = nowhere
+  keeper_placed (Some p) q e sides side number penalty h =
       let a = both_true (is_coordinate p.x && is_coordinate p.y && is_coordinate p.theta) (is_radius p.radius) e in
       let b = both_true (is_coordinate p.x && is_coordinate p.y) (is_coordinate p.theta) a.0 in
       let y = right_true (is_coordinate p.x) (is_coordinate p.y) b.0 in
@@ -179,9 +174,9 @@ module _ (s : Situation) (xs ys : List Float) (fit : PlaceFloats s) (e : refusal
   keeper_number Home = keepers.0
   keeper_number Away = keepers.1
 
-  maybe_keeper_placed : (side : Side) (keeper : MaybeNumber) → number_fits keeper ≡ true → Placed (maybe_keeper_place keeper s.game.sides s.field side (team_of s side))
-  maybe_keeper_placed side NoNumber h = nowhere
-  maybe_keeper_placed side (Number n) h = keeper_placed s.field fit.field r (player_numbered (team_of s side) n).pose (seen side n) (in_range side n h) s.game.sides side n (player_numbered (team_of s side) n).penalty h
+  maybe_keeper_placed : (side : Side) (keeper : Option ℕ) → number_fits keeper ≡ true → Placed (maybe_keeper_place keeper s.game.sides s.field side (team_of s side))
+  maybe_keeper_placed side None h = nowhere
+  maybe_keeper_placed side (Some n) h = keeper_placed s.field fit.field r (player_numbered (team_of s side) n).pose (seen side n) (in_range side n h) s.game.sides side n (player_numbered (team_of s side) n).penalty h
 
   -- ---- a penalised player
   bounds_fit : FloatsFit s
@@ -201,14 +196,14 @@ module _ (s : Situation) (xs ys : List Float) (fit : PlaceFloats s) (e : refusal
     player_number : is_player_number number ≡ true
     player_number = subst (λ (v : Wish). wish_fits v ≡ true) w (wished_fits s xs ys a)
 
-    present_placed : (p : PlayerPose) → (player_numbered (team_of s side) number).pose ≡ Present p
+    present_placed : (p : PlayerPose) → (player_numbered (team_of s side) number).pose ≡ Some p
         → Placed (place_for_penalty s.game.sides s.field s.penalty_placement_distance s.home s.away xs ys side number)
     unfolding pose_fits
     present_placed p h =
         let f = s.field in
         let d = s.penalty_placement_distance in
         let q = subst SeenFits h (seen side number) in
-        let radius = right_true (is_coordinate p.x && is_coordinate p.y && is_coordinate p.theta) (is_radius p.radius) (subst (λ (v : SeenPose). seen_fits v ≡ true) h (in_range side number player_number)) in
+        let radius = right_true (is_coordinate p.x && is_coordinate p.y && is_coordinate p.theta) (is_radius p.radius) (subst (λ (v : Option PlayerPose). seen_fits v ≡ true) h (in_range side number player_number)) in
         let u = radius_under p.radius q.radius radius in
         let order = bounds.candidates side number p w h in
         let among = bounds.place side number p w h in
@@ -224,11 +219,11 @@ module _ (s : Situation) (xs ys : List Float) (fit : PlaceFloats s) (e : refusal
     unfolding place_for_penalty
     penalty_placed = go (player_numbered (team_of s side) number).pose refl
       where
-        go : (q : SeenPose) → (player_numbered (team_of s side) number).pose ≡ q → Placed (place_for_penalty s.game.sides s.field s.penalty_placement_distance s.home s.away xs ys side number)
-        go Absent h =
+        go : (q : Option PlayerPose) → (player_numbered (team_of s side) number).pose ≡ q → Placed (place_for_penalty s.game.sides s.field s.penalty_placement_distance s.home s.away xs ys side number)
+        go None h =
             chosen (eqb (length xs) (length ys))
-            (subst (λ (v : SeenPose). Placed (seen_place s.field s.penalty_placement_distance (side_to_sign side s.game.sides) v (occupied s.home s.away side number xs ys) side number)) (sym h) nowhere) nowhere
-        go (Present p) h = present_placed p h
+            (subst (λ (v : Option PlayerPose). Placed (seen_place s.field s.penalty_placement_distance (side_to_sign side s.game.sides) v (occupied s.home s.away side number xs ys) side number)) (sym h) nowhere) nowhere
+        go (Some p) h = present_placed p h
 
   -- ---- the place wished for
   for_placed : (w : Wish) → s.wish ≡ w → Placed (place_for w s xs ys)

@@ -1,5 +1,5 @@
 -- What is claimed of the place of every accepted situation: its numbers are finite, and a placed player has a number from 1 to 20; and that the sign of a zero of an earlier place makes no difference. Definitions only.
-use Rattle.std.specs.Prelude.{◌≡◌, true, cond, List, map, ℕ, T, Float, get_or}
+use Rattle.std.specs.Prelude.{◌≡◌, true, cond, List, map, ℕ, T, Float, get_or, Option, None, Some}
 use Rattle.std.specs.Float.{nan, binary32}
 use Rattle.std.specs.Float.Ieee.{eq, fits}
 use Rattle.floats.specs.Arithmetic.{zero32}
@@ -9,8 +9,6 @@ use Rattle.game.specs.declared.FieldDimensions.{FieldDimensions}
 use Rattle.game.specs.declared.Placement.{Placement}
 use Rattle.game.specs.declared.Placement.TheVariants.{NoPlace, BallAt, PlayerAt}
 use Rattle.game.specs.declared.PlayerPose.{PlayerPose}
-use Rattle.game.specs.declared.SeenPose.{SeenPose}
-use Rattle.game.specs.declared.SeenPose.TheVariants.{Absent, Present}
 use Rattle.game.specs.declared.Side.{Side}
 use Rattle.game.specs.declared.Situation.{Situation}
 use Rattle.refusals.specs.Refusals.{is_player_number, refusal_of}
@@ -32,9 +30,9 @@ pub record PoseFits (p : PlayerPose) : Type 0 where
   pub radius : T (fits binary32 p.radius)
 
 -- of a pose, where there is one
-abbrev pub SeenFits : SeenPose → Type 0
-SeenFits Absent = Unit {0}
-SeenFits (Present p) = PoseFits p
+abbrev pub SeenFits : Option PlayerPose → Type 0
+SeenFits None = Unit {0}
+SeenFits (Some p) = PoseFits p
 
 -- the sizes that places are found by
 pub record SizesFit (f : FieldDimensions) : Type 0 where

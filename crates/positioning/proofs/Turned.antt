@@ -10,26 +10,22 @@ use Rattle.game.specs.declared.Ball.{Ball}
 use Rattle.game.specs.declared.FieldDimensions.{FieldDimensions}
 use Rattle.game.specs.declared.Game.{Game}
 use Rattle.game.specs.declared.Margins.{Margins}
-use Rattle.game.specs.declared.MaybeMargins.{MaybeMargins}
-use Rattle.game.specs.declared.MaybeMargins.TheVariants.{NoMargins, Known}
-use Rattle.game.specs.declared.MaybeNumber.{MaybeNumber}
 use Rattle.game.specs.declared.Player.{Player}
 use Rattle.game.specs.declared.PlayerPose.{PlayerPose}
-use Rattle.game.specs.declared.SeenPose.{SeenPose}
-use Rattle.game.specs.declared.SeenPose.TheVariants.{Absent, Present}
 use Rattle.game.specs.declared.SetPlay.{SetPlay}
 use Rattle.game.specs.declared.SetPlay.TheVariants.{NoSetPlay, KickOff, DirectFreeKick, IndirectFreeKick, PenaltyKick, ThrowIn, GoalKick, CornerKick}
 use Rattle.game.specs.declared.Side.{Side}
 use Rattle.game.specs.declared.State.{State}
 use Rattle.geometry.specs.Geometry.{side_to_sign, mark_x}
-use Rattle.geometry.specs.Turned.{signed, changed_pose, changed_seen, changed_player, changed_ball, changed_game}
-use Rattle.geometry.proofs.Turned.{team_changed, abs_changed, hypot_changed, distance_changed, sign_changed}
+use Rattle.geometry.specs.Turned.{changed_pose, changed_seen, changed_player, changed_ball, changed_game}
+use Rattle.geometry.proofs.Turned.{team_changed, hypot_changed, sign_changed}
 use Rattle.conditions.specs.declared.Condition.{Condition}
 use Rattle.conditions.specs.declared.Condition.TheVariants.{NoCondition}
 use Rattle.conditions.specs.Conditions.{first_of, verdict_of}
 use Rattle.avoidance.specs.Avoidance.{avoidance_condition}
 use Rattle.avoidance.proofs.Turned.{avoidance_condition_changed}
 use Rattle.positioning.specs.Positioning.{kick_off_condition, attack_condition, defence_condition, penalty_kick_condition, set_play_condition, seen_condition, is_judged, condition_of, is_illegally_positioned}
+use Rattle.std.specs.Prelude.{Option, None, Some}
 
 kick_off_changed : (a b : Bool) (g : Game) (f : FieldDimensions) (side : Side) (p : PlayerPose) → kick_off_condition (changed_game a g) f side (changed_pose a b p) ≡ kick_off_condition g f side p
 unfolding kick_off_condition
@@ -59,18 +55,18 @@ set_play_changed a b ThrowIn g f side keeper c p m = refl
 set_play_changed a b GoalKick g f side keeper c p m = refl
 set_play_changed a b CornerKick g f side keeper c p m = refl
 
-seen_changed : (a b : Bool) (p : SeenPose) (m : MaybeMargins) (g : Game) (f : FieldDimensions) (side : Side) (keeper : Bool) (c : Condition) → seen_condition (changed_seen a b p) m (changed_game a g) f side keeper c ≡ seen_condition p m g f side keeper c
-seen_changed a b Absent m g f side keeper c = refl
-seen_changed a b (Present p) NoMargins g f side keeper c = refl
-seen_changed a b (Present p) (Known m) g f side keeper c = set_play_changed a b g.set_play g f side keeper c p m
+seen_changed : (a b : Bool) (p : Option PlayerPose) (m : Option Margins) (g : Game) (f : FieldDimensions) (side : Side) (keeper : Bool) (c : Condition) → seen_condition (changed_seen a b p) m (changed_game a g) f side keeper c ≡ seen_condition p m g f side keeper c
+seen_changed a b None m g f side keeper c = refl
+seen_changed a b (Some p) None g f side keeper c = refl
+seen_changed a b (Some p) (Some m) g f side keeper c = set_play_changed a b g.set_play g f side keeper c p m
 
-pub condition_changed : (a b : Bool) (g : Game) (f : FieldDimensions) (ball : Ball) (side : Side) (goalkeeper : MaybeNumber) (number : ℕ) (q : Player) (m : MaybeMargins) → condition_of (changed_game a g) f (changed_ball a b ball) side goalkeeper number (changed_player a b q) m ≡ condition_of g f ball side goalkeeper number q m
+pub condition_changed : (a b : Bool) (g : Game) (f : FieldDimensions) (ball : Ball) (side : Side) (goalkeeper : Option ℕ) (number : ℕ) (q : Player) (m : Option Margins) → condition_of (changed_game a g) f (changed_ball a b ball) side goalkeeper number (changed_player a b q) m ≡ condition_of g f ball side goalkeeper number q m
 unfolding condition_of
 condition_changed a b g f ball side goalkeeper number q m =
     let avoidance = avoidance_condition (changed_game a g) f (changed_ball a b ball) side (changed_player a b q) m in
     ap (λ (c : Condition). first_of (is_judged g q.penalty) c NoCondition)
     (seen_changed a b q.pose m g f side (is_number goalkeeper number) avoidance ∙ ap (seen_condition q.pose m g f side (is_number goalkeeper number)) (avoidance_condition_changed a b g f ball side q m))
 
-pub verdict_changed : (a b : Bool) (g : Game) (f : FieldDimensions) (ball : Ball) (side : Side) (goalkeeper : MaybeNumber) (number : ℕ) (q : Player) (m : MaybeMargins) → is_illegally_positioned (changed_game a g) f (changed_ball a b ball) side goalkeeper number (changed_player a b q) m ≡ is_illegally_positioned g f ball side goalkeeper number q m
+pub verdict_changed : (a b : Bool) (g : Game) (f : FieldDimensions) (ball : Ball) (side : Side) (goalkeeper : Option ℕ) (number : ℕ) (q : Player) (m : Option Margins) → is_illegally_positioned (changed_game a g) f (changed_ball a b ball) side goalkeeper number (changed_player a b q) m ≡ is_illegally_positioned g f ball side goalkeeper number q m
 unfolding is_illegally_positioned
 verdict_changed a b g f ball side goalkeeper number q m = ap verdict_of (condition_changed a b g f ball side goalkeeper number q m)

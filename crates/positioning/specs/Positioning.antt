@@ -1,6 +1,6 @@
 -- Where a player may stand in a set play: the test of the rules that settles the verdict on its position, and the verdict. The test is the innermost one that leads to the verdict; of several
 -- joined by `or` it is the first that holds. Definitions only.
-use Rattle.std.specs.Prelude.{Bool, true, false, not, ◌&&◌, ◌||◌, List, ℕ, Float}
+use Rattle.std.specs.Prelude.{Bool, true, false, not, ◌&&◌, ◌||◌, List, ℕ, Float, Option, None, Some}
 use Rattle.std.specs.Float.Ieee.{neg, lt}
 use Rattle.floats.specs.Arithmetic.{◌-₃₂◌}
 use Rattle.lists.specs.Table.{table}
@@ -11,16 +11,10 @@ use Rattle.game.specs.declared.Ball.{Ball}
 use Rattle.game.specs.declared.FieldDimensions.{FieldDimensions}
 use Rattle.game.specs.declared.Game.{Game}
 use Rattle.game.specs.declared.Margins.{Margins}
-use Rattle.game.specs.declared.MaybeMargins.{MaybeMargins}
-use Rattle.game.specs.declared.MaybeMargins.TheVariants.{NoMargins, Known}
-use Rattle.game.specs.declared.MaybeNumber.{MaybeNumber}
 use Rattle.game.specs.declared.Penalty.{Penalty}
 use Rattle.game.specs.declared.Player.{Player}
-use Rattle.game.specs.declared.PlayerMargins.{PlayerMargins}
 use Rattle.game.specs.declared.PlayerPose.{PlayerPose}
 use Rattle.game.specs.declared.Positioning.{Positioning}
-use Rattle.game.specs.declared.SeenPose.{SeenPose}
-use Rattle.game.specs.declared.SeenPose.TheVariants.{Absent, Present}
 use Rattle.game.specs.declared.SetPlay.{SetPlay}
 use Rattle.game.specs.declared.SetPlay.TheVariants.{NoSetPlay, KickOff, DirectFreeKick, IndirectFreeKick, PenaltyKick, ThrowIn, GoalKick, CornerKick}
 use Rattle.game.specs.declared.Side.{Side}
@@ -30,7 +24,6 @@ use Rattle.geometry.specs.Geometry.{side_to_sign, team_x, in_circle, on_mark, is
 use Rattle.conditions.specs.Conditions.{first_of, verdict_of}
 use Rattle.conditions.specs.declared.Condition.{Condition}
 use Rattle.conditions.specs.declared.Condition.TheVariants.{NoCondition, OnCenterMark, OutsideCircle, InCircle, InOpponentHalf, InCenterCircle, OnPenaltyMark, BeyondPenaltyMark, InOpponentPenaltyArea, NearPenaltyMark, InOwnPenaltyArea, BehindOwnMark, NearOwnMark}
-use Rattle.conditions.specs.declared.PlayerCondition.{PlayerCondition}
 use Rattle.avoidance.specs.Avoidance.{avoidance_condition}
 
 -- ---- kick-off
@@ -83,26 +76,26 @@ set_play_condition GoalKick g f side goalkeeper avoidance p m = avoidance
 set_play_condition CornerKick g f side goalkeeper avoidance p m = avoidance
 
 -- the same where pose and margins are there; an absent player has none
-abbrev pub seen_condition : SeenPose → MaybeMargins → Game → FieldDimensions → Side → Bool → Condition → Condition
-seen_condition Absent m g f side goalkeeper avoidance = NoCondition
-seen_condition (Present p) NoMargins g f side goalkeeper avoidance = NoCondition
-seen_condition (Present p) (Known m) g f side goalkeeper avoidance = set_play_condition g.set_play g f side goalkeeper avoidance p m
+abbrev pub seen_condition : Option PlayerPose → Option Margins → Game → FieldDimensions → Side → Bool → Condition → Condition
+seen_condition None m g f side goalkeeper avoidance = NoCondition
+seen_condition (Some p) None g f side goalkeeper avoidance = NoCondition
+seen_condition (Some p) (Some m) g f side goalkeeper avoidance = set_play_condition g.set_play g f side goalkeeper avoidance p m
 
 -- in Set and Playing outside the shoot-out, an unpenalised player
 abbrev pub is_judged : Game → Penalty → Bool
 is_judged g penalty = not (is_shootout g.phase) && (is_set g.state || is_playing g.state) && is_unpenalized penalty
 
 -- the condition that settles the verdict on the player with this number, given its team's goalkeeper
-unfoldable pub condition_of : Game → FieldDimensions → Ball → Side → MaybeNumber → ℕ → Player → MaybeMargins → Condition
+unfoldable pub condition_of : Game → FieldDimensions → Ball → Side → Option ℕ → ℕ → Player → Option Margins → Condition
 condition_of g f b side goalkeeper number player m =
     first_of (is_judged g player.penalty) (seen_condition player.pose m g f side (is_number goalkeeper number) (avoidance_condition g f b side player m)) NoCondition
 
 -- the condition on the player at the place i, whose number is i + 1
-abbrev pub condition_at : Game → FieldDimensions → Ball → Side → Team → List PlayerMargins → ℕ → PlayerCondition
-condition_at g f b side t margins i = record { condition = condition_of g f b side t.goalkeeper (number_at i) (player_at t i) (margins_at margins i) }
+abbrev pub condition_at : Game → FieldDimensions → Ball → Side → Team → List (Option Margins) → ℕ → Condition
+condition_at g f b side t margins i = condition_of g f b side t.goalkeeper (number_at i) (player_at t i) (margins_at margins i)
 
 -- the conditions on a team's players by their places
-unfoldable pub team_conditions : Game → FieldDimensions → Ball → Side → Team → List PlayerMargins → List PlayerCondition
+unfoldable pub team_conditions : Game → FieldDimensions → Ball → Side → Team → List (Option Margins) → List Condition
 team_conditions g f b side t margins = table 20 (condition_at g f b side t margins)
 
 -- ---- whether anybody can have a condition
@@ -123,5 +116,5 @@ is_judging g = is_set_play g.set_play && (not (is_shootout g.phase) && (is_set g
 
 -- ---- the verdict
 -- the verdict on the player with this number, given its team's goalkeeper: that which the condition settles
-unfoldable pub is_illegally_positioned : Game → FieldDimensions → Ball → Side → MaybeNumber → ℕ → Player → MaybeMargins → Positioning
+unfoldable pub is_illegally_positioned : Game → FieldDimensions → Ball → Side → Option ℕ → ℕ → Player → Option Margins → Positioning
 is_illegally_positioned g f b side goalkeeper number player m = verdict_of (condition_of g f b side goalkeeper number player m)

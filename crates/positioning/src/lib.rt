@@ -4,10 +4,10 @@
 ghost use Rattle.std.specs.Prelude.{◌≡◌};
 ghost use Rattle.positioning.specs.Positioning as Spec;
 
-use conditions::{Condition, PlayerCondition};
+use conditions::Condition;
 use game::{
-    Ball, FieldDimensions, Game, Margins, MaybeMargins, MaybeNumber, Penalty, Player,
-    PlayerMargins, PlayerPose, Positioning, SeenPose, SetPlay, Side, State, Team,
+    Ball, FieldDimensions, Game, Margins, Penalty, Player, PlayerPose, Positioning, SetPlay, Side,
+    State, Team,
 };
 
 // The condition of a kick-off.
@@ -132,10 +132,10 @@ pub fn condition_of(
     field: FieldDimensions,
     ball: Ball,
     side: Side,
-    goalkeeper: MaybeNumber,
+    goalkeeper: Option<u8>,
     number: u8,
     player: Player,
-    margins: MaybeMargins,
+    margins: Option<Margins>,
 ) -> Condition
     ensures { result ≡ Spec.condition_of game field ball side goalkeeper number player margins }
 {
@@ -145,10 +145,10 @@ pub fn condition_of(
     if !is_judged(game, penalty) {
         return Condition::NoCondition;
     }
-    let SeenPose::Present(p) = pose else {
+    let Some(p) = pose else {
         return Condition::NoCondition;
     };
-    let MaybeMargins::Known(m) = margins else {
+    let Some(m) = margins else {
         return Condition::NoCondition;
     };
     match set_play {
@@ -172,10 +172,7 @@ pub fn is_judging(game: Game) -> bool
     let shootout = game::is_shootout(phase);
     let set = game::is_set(state);
     let playing = game::is_playing(state);
-    match set_play {
-        SetPlay::NoSetPlay => false,
-        _ => !shootout & (set | playing),
-    }
+    (set_play != SetPlay::NoSetPlay) & !shootout & (set | playing)
 }
 
 // The conditions on a team's players by their places. For both sides' verdicts and the coach's lines there is this one loop, so that the compiler has the walk inside it.
@@ -185,24 +182,18 @@ pub fn team_conditions(
     ball: Ball,
     side: Side,
     team: Team,
-    margins: [PlayerMargins; 20],
-) -> [PlayerCondition; 20]
+    margins: [Option<Margins>; 20],
+) -> [Condition; 20]
     ensures { result ≡ Spec.team_conditions game field ball side team margins }
 {
     let players = team.players;
     let goalkeeper = team.goalkeeper;
-    let none = Condition::NoCondition;
-    let blank = PlayerCondition { condition: none };
-    let mut out = [blank; 20];
-    let mut i: usize = 0;
-    while i < 20 {
+    let mut out = [Condition::NoCondition; 20];
+    for i in 0..20 {
         let player = players[i];
-        let slot = margins[i];
-        let known = slot.margins;
+        let known = margins[i];
         let number = (i + 1) as u8;
-        let condition = condition_of(game, field, ball, side, goalkeeper, number, player, known);
-        out[i] = PlayerCondition { condition };
-        i += 1;
+        out[i] = condition_of(game, field, ball, side, goalkeeper, number, player, known);
     }
     out
 }
@@ -214,10 +205,10 @@ pub fn is_illegally_positioned(
     field: FieldDimensions,
     ball: Ball,
     side: Side,
-    goalkeeper: MaybeNumber,
+    goalkeeper: Option<u8>,
     number: u8,
     player: Player,
-    margins: MaybeMargins,
+    margins: Option<Margins>,
 ) -> Positioning
     ensures { result ≡ Spec.is_illegally_positioned game field ball side goalkeeper number player margins }
 {

@@ -11,20 +11,19 @@ use lib.Dec.{eqb}
 use lib.ListN.{length, drop, length-take, drop_of_length-le}
 use lib.Seq.{drop-cons}
 use lib.Pow.{pow-lt}
+use Rattle.std.specs.Prelude.{Option, None, Some}
 use Rattle.lists.specs.Every.{every_to}
 use Rattle.lists.specs.Table.{table}
 use Rattle.lists.proofs.Bools.{both_true, same_test}
 use Rattle.lists.proofs.Table.{length_table, table_at}
 use Rattle.lines.specs.declared.Row.{Row}
 use Rattle.fields.specs.Fields.{is_line, row_in, line_read, line_at, line_count, column_form, rows_in}
-use Rattle.fields.specs.declared.ReadLine.{ReadLine}
-use Rattle.fields.specs.declared.ReadLine.TheVariants.{NoLine, Line}
 use Rattle.fields.proofs.Texts.{every_first}
 use Rattle.items.specs.Items.{is_item}
 use Rattle.items.proofs.View.{item_number}
 use Rattle.reading.specs.Rules.{not_before, is_body, is_header, is_sheet}
 use Rattle.reading.specs.Reading.{counted}
-use Rattle.reading.specs.Walk.{linked, fits_after, seen_after, ends, opens, after_line, next, lines_in, walked, broken, whole, counted_by, accepts}
+use Rattle.reading.specs.Walk.{linked, fits_after, seen_after, opens, after_line, next, lines_in, walked, broken, whole, counted_by, accepts}
 use Rattle.reading.specs.declared.Walk.{Walk}
 use Rattle.reading.specs.declared.Walk.TheVariants.{NotLines, Breach, Start, After}
 use Rattle.reading.proofs.Accepts.{accepts_body}
@@ -45,10 +44,10 @@ unfolding lines_in
 walk_turn text w next-w i h e inv =
     let ls = table (line_count text) (λ k. line_read (line_at text k)) in
     let far : i < length ls = omega (arith, h, length_table (line_count text) (λ k. line_read (line_at text k))) in
-    let line : drop i ls ≡ line_read (line_at text i) ∷ drop (suc i) ls = drop-cons ls i NoLine far ∙ ap (λ (x : ReadLine). x ∷ drop (suc i) ls) (table_at (line_count text) (λ k. line_read (line_at text k)) NoLine i h) in
+    let line : drop i ls ≡ line_read (line_at text i) ∷ drop (suc i) ls = drop-cons ls i None far ∙ ap (λ (x : Option Row). x ∷ drop (suc i) ls) (table_at (line_count text) (λ k. line_read (line_at text k)) None i h) in
     ap₂ (λ (v : Walk) (k : ℕ). walked v (drop k ls)) e (add-one i) ∙ sym (walked_on w (line_read (line_at text i)) (drop (suc i) ls)) ∙ ap (walked w) (sym line) ∙ inv
   where
-    walked_on : (w : Walk) (x : ReadLine) (xs : List ReadLine) → walked w (x ∷ xs) ≡ walked (next w x) xs
+    walked_on : (w : Walk) (x : Option Row) (xs : List (Option Row)) → walked w (x ∷ xs) ≡ walked (next w x) xs
     walked_on w x xs = unfold walked in refl
 
 -- the end
@@ -64,10 +63,10 @@ walk_done text w i h inv =
 
 -- ---- lines that are none
 -- all are lines
-abbrev all_read : List ReadLine → Bool
+abbrev all_read : List (Option Row) → Bool
 all_read [] = true
-all_read (NoLine ∷ ls) = false
-all_read (Line r ∷ ls) = all_read ls
+all_read (None ∷ ls) = false
+all_read (Some r ∷ ls) = all_read ls
 
 or_true : (b : Bool) → true ≡ (b || true)
 or_true true = refl
@@ -81,24 +80,24 @@ not_broken : (b : Bool) (seen : ℕ) (r : Row) → broken (after_line b seen r) 
 not_broken true seen r = refl
 not_broken false seen r = refl
 
-row_kept : (w : Walk) (r : Row) → broken (next w (Line r)) ≡ broken w
+row_kept : (w : Walk) (r : Row) → broken (next w (Some r)) ≡ broken w
 row_kept NotLines r = refl
 row_kept Breach r = refl
 row_kept Start r = not_broken (opens r) 0 r
 row_kept (After l seen) r = not_broken (fits_after l seen r) (seen_after l seen r) r
 
-broken_told : (w : Walk) (ls : List ReadLine) → broken (walked w ls) ≡ (broken w || not (all_read ls))
+broken_told : (w : Walk) (ls : List (Option Row)) → broken (walked w ls) ≡ (broken w || not (all_read ls))
 unfolding walked
 broken_told w [] = or_false (broken w)
-broken_told w (NoLine ∷ ls) = broken_told NotLines ls ∙ or_true (broken w)
-broken_told w (Line r ∷ ls) = broken_told (next w (Line r)) ls ∙ ap (λ (b : Bool). b || not (all_read ls)) (row_kept w r)
+broken_told w (None ∷ ls) = broken_told NotLines ls ∙ or_true (broken w)
+broken_told w (Some r ∷ ls) = broken_told (next w (Some r)) ls ∙ ap (λ (b : Bool). b || not (all_read ls)) (row_kept w r)
 
 -- the line alone
-read_first : (l : List ℕ) (ls : List ReadLine) → all_read (line_read l ∷ ls) ≡ (is_line l && all_read ls)
+read_first : (l : List ℕ) (ls : List (Option Row)) → all_read (line_read l ∷ ls) ≡ (is_line l && all_read ls)
 unfolding line_read
 read_first l ls = go (is_line l)
   where
-    go : (b : Bool) → all_read (cond b (Line (row_in l)) NoLine ∷ ls) ≡ (b && all_read ls)
+    go : (b : Bool) → all_read (cond b (Some (row_in l)) None ∷ ls) ≡ (b && all_read ls)
     go true = refl
     go false = refl
 
@@ -124,21 +123,21 @@ form_told text =
     (ap not (sym (all_read_holds (line_count text) (line_at text))) ∙ sym (broken_told Start (table (line_count text) (λ i. line_read (line_at text i)))))
 
 -- ---- lines
-pub line_is : (l : List ℕ) → is_line l ≡ true → line_read l ≡ Line (row_in l)
+pub line_is : (l : List ℕ) → is_line l ≡ true → line_read l ≡ Some (row_in l)
 unfolding line_read
-line_is l e = ap (λ (b : Bool). cond b (Line (row_in l)) NoLine) e
+line_is l e = ap (λ (b : Bool). cond b (Some (row_in l)) None) e
 
-rows_of : (n : ℕ) (f : ℕ → List ℕ) → every_to n (λ i. is_line (f i)) ≡ true → table n (λ i. line_read (f i)) ≡ map Line (table n (λ i. row_in (f i)))
+rows_of : (n : ℕ) (f : ℕ → List ℕ) → every_to n (λ i. is_line (f i)) ≡ true → table n (λ i. line_read (f i)) ≡ map Some (table n (λ i. row_in (f i)))
 rows_of zero f e = refl
 rows_of (suc n) f e =
     let p = both_true (is_line (f 0)) (every_to n (λ i. is_line (f (suc i)))) (sym (every_first n (λ i. is_line (f i))) ∙ e) in
-    ap₂ (λ (x : ReadLine) (xs : List ReadLine). x ∷ xs) (line_is (f 0) p.0) (rows_of n (λ i. f (suc i)) p.1)
+    ap₂ (λ (x : Option Row) (xs : List (Option Row)). x ∷ xs) (line_is (f 0) p.0) (rows_of n (λ i. f (suc i)) p.1)
 
 pub every_line : (text : List ℕ) → column_form text ≡ true → every_to (line_count text) (λ i. is_line (line_at text i)) ≡ true
 unfolding column_form
 every_line text e = (both_true (eqb (length text % 45) 0) (every_to (line_count text) (λ i. is_line (line_at text i))) e).1
 
-lines_rows : (text : List ℕ) → column_form text ≡ true → lines_in text ≡ map Line (rows_in text)
+lines_rows : (text : List ℕ) → column_form text ≡ true → lines_in text ≡ map Some (rows_in text)
 unfolding lines_in rows_in
 lines_rows text e = rows_of (line_count text) (line_at text) (every_line text e)
 
@@ -149,7 +148,7 @@ eqb_suc a b =
     (λ e. eq-eqb a b (let p = eqb-true (a + 1) (suc b) e in omega (arith, p)))
     (λ e. eq-eqb (a + 1) (suc b) (let p = eqb-true a b e in omega (arith, p)))
 
-pub short_line : (l : List ℕ) → length l < 45 → line_read l ≡ NoLine
+pub short_line : (l : List ℕ) → length l < 45 → line_read l ≡ None
 unfolding line_read is_line
 short_line l h = simp (ne_eqb (length l) 45 (λ e. omega (arith, h, e)))
 
@@ -157,29 +156,29 @@ pub counted_told : (text : List ℕ) → column_form text ≡ true → counted_b
 unfolding rows_in
 counted_told text e = go (line_count text) refl (every_line text e)
   where
-    first : (n : ℕ) (r : Row) (rs : List Row) → length rs ≡ n → counted_by (Line r) (suc n) ≡ counted (r ∷ rs)
+    first : (n : ℕ) (r : Row) (rs : List Row) → length rs ≡ n → counted_by (Some r) (suc n) ≡ counted (r ∷ rs)
     first n r rs h = ap (λ (b : Bool). not (eqb r.kind 0) || b) (eqb_suc r.number n ∙ ap (eqb r.number) (sym h))
 
     go : (n : ℕ) → length text / 45 ≡ n → every_to n (λ i. is_line (line_at text i)) ≡ true → counted_by (line_read (line_at text 0)) n ≡ counted (table n (λ i. row_in (line_at text i)))
-    go zero p every = ap (λ (x : ReadLine). counted_by x 0) (short_line (line_at text 0) (omega (arith, p, length-take 45 text)))
+    go zero p every = ap (λ (x : Option Row). counted_by x 0) (short_line (line_at text 0) (omega (arith, p, length-take 45 text)))
     go (suc n) p every =
         let q = both_true (is_line (line_at text 0)) (every_to n (λ i. is_line (line_at text (suc i)))) (sym (every_first n (λ i. is_line (line_at text i))) ∙ every) in
-        ap (λ (x : ReadLine). counted_by x (suc n)) (line_is (line_at text 0) q.0)
+        ap (λ (x : Option Row). counted_by x (suc n)) (line_is (line_at text 0) q.0)
         ∙ first n (row_in (line_at text 0)) (table n (λ i. row_in (line_at text (suc i)))) (length_table n (λ i. row_in (line_at text (suc i))))
 
 -- ---- 11
-breach_stays : (rs : List Row) → whole (walked Breach (map Line rs)) ≡ false
+breach_stays : (rs : List Row) → whole (walked Breach (map Some rs)) ≡ false
 unfolding walked
 breach_stays [] = refl
 breach_stays (r ∷ rs) = breach_stays rs
 
-whole_told : (l : Row) (seen : ℕ) (rs : List Row) → whole (walked (After l seen) (map Line rs)) ≡ accepts l seen rs
+whole_told : (l : Row) (seen : ℕ) (rs : List Row) → whole (walked (After l seen) (map Some rs)) ≡ accepts l seen rs
 unfolding walked accepts
 whole_told l seen [] = refl
 whole_told l seen (r ∷ rs) = go (fits_after l seen r) (whole_told r (seen_after l seen r) rs)
   where
-    go : (b : Bool) → whole (walked (After r (seen_after l seen r)) (map Line rs)) ≡ accepts r (seen_after l seen r) rs
-        → whole (walked (after_line b (seen_after l seen r) r) (map Line rs)) ≡ (b && accepts r (seen_after l seen r) rs)
+    go : (b : Bool) → whole (walked (After r (seen_after l seen r)) (map Some rs)) ≡ accepts r (seen_after l seen r) rs
+        → whole (walked (after_line b (seen_after l seen r) r) (map Some rs)) ≡ (b && accepts r (seen_after l seen r) rs)
     go true more = more
     go false more = breach_stays rs
 
@@ -194,15 +193,15 @@ header_told r rs h = go (eqb r.kind 0) (eqb r.side 2) (eqb r.number (length rs))
     go true true false e = absurd (true≢false (sym e))
 
 pub sheet_told : (text : List ℕ) → column_form text ≡ true → counted (rows_in text) ≡ true → whole (walked Start (lines_in text)) ≡ is_sheet (rows_in text)
-sheet_told text e c = ap (λ (ls : List ReadLine). whole (walked Start ls)) (lines_rows text e) ∙ go (rows_in text) c
+sheet_told text e c = ap (λ (ls : List (Option Row)). whole (walked Start ls)) (lines_rows text e) ∙ go (rows_in text) c
   where
-    opened : (b : Bool) (r : Row) (rs : List Row) → opens r ≡ b → whole (walked (after_line b 0 r) (map Line rs)) ≡ (b && is_body rs)
+    opened : (b : Bool) (r : Row) (rs : List Row) → opens r ≡ b → whole (walked (after_line b 0 r) (map Some rs)) ≡ (b && is_body rs)
     opened true r rs o = whole_told r 0 rs ∙ accepts_body r rs (eqb-true r.kind 0 (both_true (eqb r.kind 0) (eqb r.side 2 && eqb r.value 1) o).0)
     opened false r rs o = breach_stays rs
 
-    go : (rows : List Row) → counted rows ≡ true → whole (walked Start (map Line rows)) ≡ is_sheet rows
+    go : (rows : List Row) → counted rows ≡ true → whole (walked Start (map Some rows)) ≡ is_sheet rows
     go [] h = unfold walked in refl
     go (r ∷ rs) h = start r rs ∙ opened (opens r) r rs refl ∙ ap (λ (b : Bool). b && is_body rs) (header_told r rs h)
       where
-        start : (r : Row) (rs : List Row) → whole (walked Start (map Line (r ∷ rs))) ≡ whole (walked (after_line (opens r) 0 r) (map Line rs))
+        start : (r : Row) (rs : List Row) → whole (walked Start (map Some (r ∷ rs))) ≡ whole (walked (after_line (opens r) 0 r) (map Some rs))
         start r rs = unfold walked in refl

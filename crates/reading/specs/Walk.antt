@@ -1,11 +1,9 @@
 -- What the parts of the code tell each other: the lines one after the other, each with what is kept of those before it. Definitions only; no contract of an exported function needs them.
-use Rattle.std.specs.Prelude.{Bool, true, false, not, ◌&&◌, ◌||◌, cond, List, [], ◌∷◌, ℕ, ◌+◌, ◌*◌, ◌/◌, ◌%◌, ◌^◌, eqb, ltb, leb}
+use Rattle.std.specs.Prelude.{Bool, true, false, not, ◌&&◌, ◌||◌, cond, Option, None, Some, List, [], ◌∷◌, ℕ, ◌+◌, ◌*◌, ◌/◌, ◌%◌, ◌^◌, eqb, ltb, leb}
 use Rattle.std.specs.Int.Bits.{bit_or}
 use Rattle.lists.specs.Table.{table}
 use Rattle.lines.specs.declared.Row.{Row}
 use Rattle.fields.specs.Fields.{line_read, line_at, line_count}
-use Rattle.fields.specs.declared.ReadLine.{ReadLine}
-use Rattle.fields.specs.declared.ReadLine.TheVariants.{NoLine, Line}
 use Rattle.items.specs.Items.{is_item}
 use Rattle.reading.specs.Rules.{not_before, earlier, same_who}
 use Rattle.reading.specs.declared.Walk.{Walk}
@@ -57,19 +55,19 @@ abbrev pub opens : Row → Bool
 opens r = eqb r.kind 0 && (eqb r.side 2 && eqb r.value 1)
 
 -- one line on
-abbrev pub next : Walk → ReadLine → Walk
-next w NoLine = NotLines
-next NotLines (Line r) = NotLines
-next Breach (Line r) = Breach
-next Start (Line r) = after_line (opens r) 0 r
-next (After l seen) (Line r) = after_line (fits_after l seen r) (seen_after l seen r) r
+abbrev pub next : Walk → Option Row → Walk
+next w None = NotLines
+next NotLines (Some r) = NotLines
+next Breach (Some r) = Breach
+next Start (Some r) = after_line (opens r) 0 r
+next (After l seen) (Some r) = after_line (fits_after l seen r) (seen_after l seen r) r
 
 -- the lines of a text, each read by itself
-unfoldable pub lines_in : List ℕ → List ReadLine
+unfoldable pub lines_in : List ℕ → List (Option Row)
 lines_in text = table (line_count text) (λ i. line_read (line_at text i))
 
 -- all lines
-unfoldable pub walked : Walk → List ReadLine → Walk
+unfoldable pub walked : Walk → List (Option Row) → Walk
 walked w [] = w
 walked w (x ∷ xs) = walked (next w x) xs
 
@@ -88,9 +86,9 @@ whole Start = false
 whole (After l seen) = ends l
 
 -- a first line of kind 0 counts the others, where there are so many lines
-abbrev pub counted_by : ReadLine → ℕ → Bool
-counted_by NoLine n = true
-counted_by (Line r) n = not (eqb r.kind 0) || eqb (r.number + 1) n
+abbrev pub counted_by : Option Row → ℕ → Bool
+counted_by None n = true
+counted_by (Some r) n = not (eqb r.kind 0) || eqb (r.number + 1) n
 
 -- the lines after l, with the flags of its block, can end a sheet
 unfoldable pub accepts : Row → ℕ → List Row → Bool

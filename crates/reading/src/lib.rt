@@ -2,37 +2,30 @@
 #![tactic(auto)]
 
 ghost use Rattle.std.specs.Prelude.{◌≡◌, ◌≤◌};
-ghost use Rattle.fields.specs.declared.ReadLine.TheVariants.{Line};
 ghost use Rattle.reading.specs.Rules as Rules;
 ghost use Rattle.reading.specs.declared.Walk.TheVariants.{Start};
 ghost use Rattle.reading.specs.Reading as Spec;
 ghost use Rattle.reading.specs.Walk as Steps;
 
-use fields::ReadLine;
 use items::Item;
 use lines::Row;
 
-// How many lines follow the header, or the number of a refusal.
-#[derive(Clone, Copy)]
-pub enum SheetRead {
-    NotRead(u8),
-    Lines(usize),
+// Why a text is no sheet, by the number of the refusal.
+#[derive(Clone, Copy, PartialEq, Eq)]
+pub enum NoSheet {
+    // It is not lines of 45 bytes in column form.
+    NotLines = 9,
+    // The first line has kind 0, and its number is not how many lines come after it.
+    Miscounted = 10,
+    // It breaks another clause of what a sheet is.
+    Breach = 11,
 }
 
-// The numbers of an item, or none for a line that there is not.
-#[derive(Clone, Copy)]
-pub enum LineRead {
-    RefusedLine(u8),
-    NoSuchLine,
-    LineOf(Row),
-}
-
-// The item itself.
-#[derive(Clone, Copy)]
-pub enum ItemRead {
-    RefusedItem(u8),
-    NoItem,
-    ItemAt(Item),
+// The number of a refusal.
+pub fn number_of(refusal: NoSheet) -> u8
+    ensures { result ≡ Spec.number_of refusal }
+{
+    refusal as u8
 }
 
 // What is known after some lines: one is no line in column form; they cannot begin a sheet; there was none yet; or the last one, with a flag for each player
@@ -166,7 +159,7 @@ fn opens(row: Row) -> bool
 
 // After a line that is one in column form.
 fn after_row(walk: Walk, row: Row) -> Walk
-    ensures { result ≡ Steps.next walk (Line row) }
+    ensures { result ≡ Steps.next walk (Some row) }
 {
     match walk {
         Walk::NotLines => Walk::NotLines,
@@ -187,12 +180,12 @@ fn after_row(walk: Walk, row: Row) -> Walk
 }
 
 // One line on.
-fn next(walk: Walk, line: ReadLine) -> Walk
+fn next(walk: Walk, line: Option<Row>) -> Walk
     ensures { result ≡ Steps.next walk line }
 {
     match line {
-        ReadLine::NoLine => Walk::NotLines,
-        ReadLine::Line(row) => after_row(walk, row),
+        None => Walk::NotLines,
+        Some(row) => after_row(walk, row),
     }
 }
 
@@ -202,10 +195,8 @@ fn walk_lines(text: &[u8]) -> Walk
 {
     let n = text.len() / 45;
     let mut walk = Walk::Start;
-    let mut i: usize = 0;
-    while i < n {
+    for i in 0..n {
         walk = next(walk, fields::line_at(text, i));
-        i += 1;
     }
     walk
 }
@@ -214,12 +205,7 @@ fn walk_lines(text: &[u8]) -> Walk
 fn broken(walk: Walk) -> bool
     ensures { result ≡ Steps.broken walk }
 {
-    match walk {
-        Walk::NotLines => true,
-        Walk::Breach => false,
-        Walk::Start => false,
-        Walk::After(_, _) => false,
-    }
+    matches!(walk, Walk::NotLines)
 }
 
 // Whether a sheet can end here.
@@ -227,79 +213,63 @@ fn whole(walk: Walk) -> bool
     ensures { result ≡ Steps.whole walk }
 {
     match walk {
-        Walk::NotLines => false,
-        Walk::Breach => false,
-        Walk::Start => false,
         Walk::After(last, _) => ends(last),
+        _ => false,
     }
 }
 
 // Whether a first line of kind 0 counts the others, where there are so many lines.
-fn counted_by(line: ReadLine, n: usize) -> bool
+fn counted_by(line: Option<Row>, n: usize) -> bool
     ensures { result ≡ Steps.counted_by line n }
 {
     match line {
-        ReadLine::NoLine => true,
-        ReadLine::Line(row) => !(row.kind == 0) | (row.number as usize + 1 == n),
+        None => true,
+        Some(row) => !(row.kind == 0) | (row.number as usize + 1 == n),
     }
 }
 
-// The first refusal, 0 for none.
-fn refusal(text: &[u8]) -> u8
-    ensures { result ≡ Spec.read_refusal text.now }
+// The first refusal, where there is one.
+fn refusal(text: &[u8]) -> Result<(), NoSheet>
+    ensures { result ≡ Spec.unless_refused (Spec.read_refusal text.now) tt }
 {
     let walk = walk_lines(text);
     if broken(walk) | (text.len() % 45 != 0) {
-        return 9;
+        return Err(NoSheet::NotLines);
     }
     let first = fields::line_at(text, 0);
     if !counted_by(first, text.len() / 45) {
-        return 10;
+        return Err(NoSheet::Miscounted);
     }
     if whole(walk) {
-        return 0;
+        return Ok(());
     }
-    11
+    Err(NoSheet::Breach)
 }
 
 // Whether a text is a sheet: how many lines follow its header, or a refusal.
-pub fn read_sheet(text: &[u8]) -> SheetRead
+pub fn read_sheet(text: &[u8]) -> Result<usize, NoSheet>
     ensures { result ≡ Spec.sheet_read text.now }
 {
-    let n = refusal(text);
-    if n != 0 {
-        return SheetRead::NotRead(n);
-    }
-    SheetRead::Lines(text.len() / 45 - 1)
+    refusal(text)?;
+    Ok(text.len() / 45 - 1)
 }
 
 // The numbers of the item of a line after the header, from 1; none for 0 and past the last. A refusal, whatever line is asked for.
-pub fn read_line(text: &[u8], line: usize) -> LineRead
+pub fn read_line(text: &[u8], line: usize) -> Result<Option<Row>, NoSheet>
     ensures { result ≡ Spec.numbers_read text.now line }
 {
-    let n = refusal(text);
-    if n != 0 {
-        return LineRead::RefusedLine(n);
-    }
+    refusal(text)?;
     let is_header = line == 0;
     if is_header {
-        return LineRead::NoSuchLine;
+        return Ok(None);
     }
-    let found = fields::line_at(text, line);
-    match found {
-        ReadLine::NoLine => LineRead::NoSuchLine,
-        ReadLine::Line(row) => LineRead::LineOf(row),
-    }
+    Ok(fields::line_at(text, line))
 }
 
 // The item of a line after the header.
-pub fn read_item(text: &[u8], line: usize) -> ItemRead
+pub fn read_item(text: &[u8], line: usize) -> Result<Option<Item>, NoSheet>
     ensures { result ≡ Spec.item_read text.now line }
 {
-    let found = read_line(text, line);
-    match found {
-        LineRead::RefusedLine(n) => ItemRead::RefusedItem(n),
-        LineRead::NoSuchLine => ItemRead::NoItem,
-        LineRead::LineOf(row) => ItemRead::ItemAt(items::item_of(row)),
-    }
+    let found = read_line(text, line)?;
+    Ok(found.map(items::item_of))
 }

@@ -15,9 +15,9 @@ use Rattle.game.specs.Codes.{judgment_code}
 use Rattle.game.specs.declared.BallJudgment.{BallJudgment}
 use Rattle.game.specs.declared.Decision.{Decision}
 use Rattle.game.specs.declared.KickingPlayer.{KickingPlayer}
+use Rattle.std.specs.Prelude.{Option}
 use Rattle.game.specs.declared.Placement.{Placement}
 use Rattle.game.specs.declared.PlayerList.{PlayerList}
-use Rattle.game.specs.declared.PlayerVerdict.{PlayerVerdict}
 use Rattle.game.specs.declared.Side.{Side}
 use Rattle.game.specs.declared.Side.TheVariants.{Home, Away}
 use Rattle.sheet.specs.Rows.{verdict_code, numbers_of, rows_of}
@@ -33,9 +33,10 @@ use Rattle.reading_holds.proofs.Orderly.{Numbered, Rising, KickerFits, no_kicker
 use Rattle.reading_holds.proofs.Faithful.{Low, Faithful, verdict_faithful, excess_faithful, kicks_faithful, leaves_faithful, moved_faithful, judged_faithful}
 use Rattle.reading_holds.proofs.FaithfulPlaces.{WhoFits, the_ball, one_player, x_faithful, y_faithful, third_faithful}
 use Rattle.reading_holds.proofs.Items.{rows_of_items}
+use Rattle.game.specs.declared.Positioning.{Positioning}
 
 -- ---- each block
-verdicts_faithful : (side : Side) (v : List PlayerVerdict) → All Faithful (verdict_items side v)
+verdicts_faithful : (side : Side) (v : List Positioning) → All Faithful (verdict_items side v)
 unfolding verdict_items
 verdicts_faithful side v =
     all_flat 20 (λ i. only_if (ltb 0 (verdict_code v i)) (Verdict side (i + 1) (verdict_on v i)))
@@ -60,7 +61,7 @@ rising_all : (item : ℕ → Item) (l : PlayerList) → ((n : ℕ) → Numbered 
 unfolding list_items
 rising_all item l f c = all_each (λ n k. item n) (λ n k g m. f n g) (rising_numbers c)
 
-kicker_all : {k : KickingPlayer} → KickerFits k → All Faithful (kicker_items k)
+kicker_all : {k : Option KickingPlayer} → KickerFits k → All Faithful (kicker_items k)
 kicker_all no_kicker = no_more
 kicker_all (one_kicker {side} {n} h) = one_more (kicks_faithful side n h) no_more
 

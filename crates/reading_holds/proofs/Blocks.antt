@@ -9,11 +9,9 @@ use Rattle.game.specs.Codes.{side_code, judgment_code, judgment_side}
 use Rattle.game.specs.declared.BallJudgment.{BallJudgment}
 use Rattle.game.specs.declared.Decision.{Decision}
 use Rattle.game.specs.declared.KickingPlayer.{KickingPlayer}
-use Rattle.game.specs.declared.KickingPlayer.TheVariants.{NoKicker, Kicker}
 use Rattle.game.specs.declared.Placement.{Placement}
 use Rattle.game.specs.declared.Placement.TheVariants.{NoPlace, BallAt, PlayerAt}
 use Rattle.game.specs.declared.PlayerList.{PlayerList}
-use Rattle.game.specs.declared.PlayerVerdict.{PlayerVerdict}
 use Rattle.game.specs.declared.Side.{Side}
 use Rattle.game.specs.declared.Side.TheVariants.{Home, Away}
 use Rattle.game.specs.declared.SideDecision.{SideDecision}
@@ -22,12 +20,14 @@ use Rattle.sheet.specs.Rows.{row, verdict_code, verdict_row, verdict_rows, numbe
 use Rattle.reading.specs.Rules.{only}
 use Rattle.reading.proofs.All.{All, no_more, one_more, all_only, all_flat, all_table, all_so}
 use Rattle.reading.proofs.Lists.{only_append, kept, only_kept}
+use Rattle.game.specs.declared.Positioning.{Positioning}
+use Rattle.std.specs.Prelude.{Option, None, Some}
 
 -- ---- each block has one kind, and one side
 abbrev pub At : ℕ → ℕ → Row → Type 0
 At kind side r = (r.kind ≡ kind) × (r.side ≡ side)
 
-pub verdicts_at : (side : Side) (v : List PlayerVerdict) → All (At 1 (side_code side)) (verdict_rows side v)
+pub verdicts_at : (side : Side) (v : List Positioning) → All (At 1 (side_code side)) (verdict_rows side v)
 unfolding verdict_rows
 verdicts_at side v = all_flat 20 (verdict_row (side_code side) v) (λ i l. all_only (ltb 0 (verdict_code v i)) (row 1 (side_code side) (i + 1) (verdict_code v i)) (λ t. (refl, refl)))
 
@@ -36,13 +36,13 @@ unfolding list_rows
 list_at kind side value l = all_table (length (numbers_of l)) (λ k. row kind (side_code side) (get_or (numbers_of l) k 0) (value k)) (λ k h. (refl, refl))
 
 -- the kicker's side, 0 where there is none
-abbrev pub kicker_side : KickingPlayer → ℕ
-kicker_side NoKicker = 0
-kicker_side (Kicker side n) = side_code side
+abbrev pub kicker_side : Option KickingPlayer → ℕ
+kicker_side None = 0
+kicker_side (Some k) = side_code k.side
 
-pub kicker_at : (k : KickingPlayer) → All (At 3 (kicker_side k)) (kicker_rows k)
-kicker_at NoKicker = no_more
-kicker_at (Kicker side n) = one_more (refl, refl) no_more
+pub kicker_at : (k : Option KickingPlayer) → All (At 3 (kicker_side k)) (kicker_rows k)
+kicker_at None = no_more
+kicker_at (Some k) = one_more (refl, refl) no_more
 
 pub ball_at : (j : BallJudgment) → All (At 6 (judgment_side j)) (ball_rows j)
 unfolding ball_rows

@@ -13,11 +13,9 @@ use Rattle.game.specs.Codes.{side_code, judgment_code, judgment_side}
 use Rattle.game.specs.declared.BallJudgment.{BallJudgment}
 use Rattle.game.specs.declared.Decision.{Decision}
 use Rattle.game.specs.declared.KickingPlayer.{KickingPlayer}
-use Rattle.game.specs.declared.KickingPlayer.TheVariants.{NoKicker, Kicker}
 use Rattle.game.specs.declared.Placement.{Placement}
 use Rattle.game.specs.declared.Placement.TheVariants.{NoPlace, BallAt, PlayerAt}
 use Rattle.game.specs.declared.PlayerList.{PlayerList}
-use Rattle.game.specs.declared.PlayerVerdict.{PlayerVerdict}
 use Rattle.game.specs.declared.Side.{Side}
 use Rattle.game.specs.declared.Side.TheVariants.{Home, Away}
 use Rattle.lines.specs.declared.Row.{Row}
@@ -31,6 +29,8 @@ use Rattle.reading_holds.proofs.Faithful.{Low}
 use Rattle.reading_holds.proofs.Back.{rows_told, rows_low}
 use Rattle.reading_holds.proofs.Ordered.{rank_of, rows_ordered}
 use Rattle.reading_holds.proofs.Blocks.{side_of, rows_only, verdicts_only, excess_only, kicker_only, leaving_only, moved_only, ball_only}
+use Rattle.game.specs.declared.Positioning.{Positioning}
+use Rattle.std.specs.Prelude.{Option, None, Some}
 
 -- ---- kinds never fall, and Home comes first in kind 2
 not_before_holds : (r t : Row) → Low r → Low t → rank_of r + 0 ≤ rank_of t → not_before r t ≡ true
@@ -57,7 +57,7 @@ is_earlier r t lr lt h =
     let less : r.number < t.number = omega (arith, same) in
     or_right (ltb r.side t.side) _ (both (eqb r.side t.side) _ (eq-eqb r.side t.side same) (lt-ltb r.number t.number less)))
 
-verdicts_rise : (side : Side) (v : List PlayerVerdict) → Chain player_of 1 (21 * side_code side + 1) (21 * side_code side + 21) (verdict_rows side v)
+verdicts_rise : (side : Side) (v : List Positioning) → Chain player_of 1 (21 * side_code side + 1) (21 * side_code side + 21) (verdict_rows side v)
 unfolding verdict_rows
 verdicts_rise side v =
     chain_flat 20 (verdict_row (side_code side) v) (λ i. 21 * side_code side + suc i)
@@ -81,9 +81,9 @@ unfolding list_rows
 names_told side l h = none_twice_holds (distinct_each (λ n k. row 2 (side_code side) n (from_one k)) (λ n k. refl) h)
 
 -- ---- one at most
-kicker_few : (k : KickingPlayer) → leb (length (kicker_rows k)) 1 ≡ true
-kicker_few NoKicker = refl
-kicker_few (Kicker side n) = refl
+kicker_few : (k : Option KickingPlayer) → leb (length (kicker_rows k)) 1 ≡ true
+kicker_few None = refl
+kicker_few (Some k) = refl
 
 ball_few : (j : BallJudgment) → leb (length (ball_rows j)) 1 ≡ true
 unfolding ball_rows

@@ -14,11 +14,9 @@ use Rattle.game.specs.Codes.{side_code, judgment_code}
 use Rattle.game.specs.declared.BallJudgment.{BallJudgment}
 use Rattle.game.specs.declared.Decision.{Decision}
 use Rattle.game.specs.declared.KickingPlayer.{KickingPlayer}
-use Rattle.game.specs.declared.KickingPlayer.TheVariants.{NoKicker, Kicker}
 use Rattle.game.specs.declared.Placement.{Placement}
 use Rattle.game.specs.declared.Placement.TheVariants.{NoPlace, BallAt, PlayerAt}
 use Rattle.game.specs.declared.PlayerList.{PlayerList}
-use Rattle.game.specs.declared.PlayerVerdict.{PlayerVerdict}
 use Rattle.game.specs.declared.Side.{Side}
 use Rattle.sheet.specs.Rows.{row, verdict_code, verdict_row, verdict_rows, numbers_of, list_rows, from_one, none, kicker_rows, ball_rows, placed_value, place_rows, rows_of}
 use Rattle.items.specs.Items.{who_side, who_number, row_of}
@@ -28,13 +26,15 @@ use Rattle.items.specs.declared.Who.{Who}
 use Rattle.items.specs.declared.Who.TheVariants.{TheBall, OnePlayer}
 use Rattle.reading_holds.specs.Decided.{verdict_on, verdict_items, list_items, excess_items, leaving_items, moved_items, kicker_items, ball_items, value_items, place_items, items_of}
 use Rattle.reading_holds.proofs.Values.{value_same}
+use Rattle.game.specs.declared.Positioning.{Positioning}
+use Rattle.std.specs.Prelude.{Option, None, Some}
 
 -- ---- the lines of the items
 map_only : (b : Bool) (i : Item) → map row_of (only_if b i) ≡ only_if b (row_of i)
 map_only true i = refl
 map_only false i = refl
 
-verdict_lines_holds : (side : Side) (v : List PlayerVerdict) → map row_of (verdict_items side v) ≡ verdict_rows side v
+verdict_lines_holds : (side : Side) (v : List Positioning) → map row_of (verdict_items side v) ≡ verdict_rows side v
 unfolding verdict_items verdict_rows
 verdict_lines_holds side v =
     let one : ℕ → List Item = λ i. only_if (ltb 0 (verdict_code v i)) (Verdict side (i + 1) (verdict_on v i)) in
@@ -55,9 +55,9 @@ leaving_lines side l = list_lines (λ n k. Leaves side n) 4 side none l (λ n k.
 moved_lines : (side : Side) (l : PlayerList) → map row_of (moved_items side l) ≡ list_rows 5 side none l
 moved_lines side l = list_lines (λ n k. HasMoved side n) 5 side none l (λ n k. refl)
 
-kicker_lines : (k : KickingPlayer) → map row_of (kicker_items k) ≡ kicker_rows k
-kicker_lines NoKicker = refl
-kicker_lines (Kicker side n) = refl
+kicker_lines : (k : Option KickingPlayer) → map row_of (kicker_items k) ≡ kicker_rows k
+kicker_lines None = refl
+kicker_lines (Some k) = refl
 
 ball_lines : (j : BallJudgment) → map row_of (ball_items j) ≡ ball_rows j
 unfolding ball_items ball_rows

@@ -8,7 +8,6 @@ use Rattle.game.specs.declared.BallJudgment.{BallJudgment}
 use Rattle.game.specs.declared.BallJudgment.TheVariants.{NoJudgment, Goal, GoalKick, CornerKick, ThrowIn, EndOfPenaltyShot}
 use Rattle.game.specs.declared.Decision.{Decision}
 use Rattle.game.specs.declared.KickingPlayer.{KickingPlayer}
-use Rattle.game.specs.declared.KickingPlayer.TheVariants.{NoKicker, Kicker}
 use Rattle.game.specs.declared.Placement.{Placement}
 use Rattle.game.specs.declared.Placement.TheVariants.{NoPlace, BallAt, PlayerAt}
 use Rattle.game.specs.declared.Side.TheVariants.{Home, Away}
@@ -17,6 +16,7 @@ use Rattle.sheet.specs.Rows.{row, from_one, none, place_rows, rows_of}
 use Rattle.reading.proofs.All.{All, no_more, one_more, all_so, Chain, chain_lower, chain_higher, chain_append, chain_level}
 use Rattle.reading_holds.proofs.Faithful.{side_low}
 use Rattle.reading_holds.proofs.Blocks.{At, verdicts_at, list_at, kicker_side, kicker_at, ball_at}
+use Rattle.std.specs.Prelude.{Option, None, Some}
 
 -- the place in the order: by the kind, then by the side
 abbrev pub rank_of : Row → ℕ
@@ -26,9 +26,9 @@ rank_of r = 3 * r.kind + r.side
 ordered_at : (kind side lo hi : ℕ) {rs : List Row} → lo ≤ 3 * kind + side → 3 * kind + side ≤ hi → All (At kind side) rs → Chain rank_of 0 lo hi rs
 ordered_at kind side lo hi g h a = chain_lower g (chain_higher h (chain_level (3 * kind + side) (all_so (λ r e. ap₂ (λ (k s : ℕ). 3 * k + s) e.0 e.1) a)))
 
-kicker_side_holds : (k : KickingPlayer) → kicker_side k ≤ 1
-kicker_side_holds NoKicker = omega arith
-kicker_side_holds (Kicker side n) = side_low side
+kicker_side_holds : (k : Option KickingPlayer) → kicker_side k ≤ 1
+kicker_side_holds None = omega arith
+kicker_side_holds (Some k) = side_low k.side
 
 judgment_side_holds : (j : BallJudgment) → judgment_side j ≤ 2
 judgment_side_holds NoJudgment = omega arith

@@ -18,11 +18,6 @@ use Rattle.game.specs.declared.Decision.{Decision}
 use Rattle.game.specs.declared.FieldDimensions.{FieldDimensions}
 use Rattle.game.specs.declared.Game.{Game}
 use Rattle.game.specs.declared.KickingPlayer.{KickingPlayer}
-use Rattle.game.specs.declared.KickingPlayer.TheVariants.{NoKicker, Kicker}
-use Rattle.game.specs.declared.MaybeSide.{MaybeSide}
-use Rattle.game.specs.declared.MaybeSide.TheVariants.{NoSide, Of}
-use Rattle.game.specs.declared.MaybeNumber.TheVariants.{NoNumber, Number}
-use Rattle.game.specs.declared.PlayerMargins.{PlayerMargins}
 use Rattle.game.specs.declared.Side.{Side}
 use Rattle.game.specs.declared.Side.TheVariants.{Home, Away}
 use Rattle.game.specs.declared.SideDecision.{SideDecision}
@@ -38,6 +33,8 @@ use Rattle.sheet.specs.Rows.{numbers_of}
 use Rattle.sheet.proofs.Room.{Short}
 use Rattle.places_hold.specs.Claims.{Placed}
 use Rattle.reading.proofs.All.{All, no_more, all_table, Distinct, nothing, distinct_table, Chain, chain_only, chain_flat}
+use Rattle.std.specs.Prelude.{Option, None, Some}
+use Rattle.game.specs.declared.Margins.{Margins}
 
 -- ---- what holds
 -- a player's number
@@ -55,9 +52,9 @@ pub record OrderlySide (d : SideDecision) : Type 0 where
   pub leaving : Rising (numbers_of d.leaving)
   pub moved : Rising (numbers_of d.moved)
 
-pub data KickerFits : KickingPlayer → Type 0 where
-  no_kicker : KickerFits NoKicker
-  one_kicker : {side : Side} {n : ℕ} → Numbered n → KickerFits (Kicker side n)
+pub data KickerFits : Option KickingPlayer → Type 0 where
+  no_kicker : KickerFits None
+  one_kicker : {side : Side} {n : ℕ} → Numbered n → KickerFits (Some (record { side = side; number = n }))
 
 pub record Orderly (d : Decision) : Type 0 where
   pub home : OrderlySide d.home
@@ -90,7 +87,7 @@ moved_rising t = where_rising (λ i. has_moved (player_at t i))
 abbrev Apart : List ℕ → Type 0
 Apart ns = All Numbered ns × Distinct (λ (n : ℕ). n) ns
 
-area_apart : (t : Team) (m : List PlayerMargins) (prefer : Bool) → Apart (numbers_of (goal_area_excess t m prefer))
+area_apart : (t : Team) (m : List (Option Margins)) (prefer : Bool) → Apart (numbers_of (goal_area_excess t m prefer))
 unfolding goal_area_excess
 area_apart t m prefer =
     subst Apart (sym (numbers_listed (table (inside t m - allowed) (λ k. named t m prefer k + 1)))) (
@@ -98,7 +95,7 @@ area_apart t m prefer =
       distinct_table (inside t m - allowed) (λ k. named t m prefer k + 1) (λ j k g h e. excess_once t m prefer j k g h (omega (arith, e))),
     )
 
-excess_apart : (g : Game) (t : Team) (m : List PlayerMargins) → Apart (numbers_of (team_excess g t m))
+excess_apart : (g : Game) (t : Team) (m : List (Option Margins)) → Apart (numbers_of (team_excess g t m))
 unfolding team_excess empty_list
 excess_apart g t m = go (is_excess_asked g)
   where
@@ -124,15 +121,15 @@ side_orderly s side =
 number_fits_holds : (side : Side) (i : ℕ) → KickerFits (kicker_numbered side (kicker_number i))
 number_fits_holds side i = go (ltb i 20) refl
   where
-    go : (b : Bool) → ltb i 20 ≡ b → KickerFits (kicker_numbered side (cond b (Number (number_at i)) NoNumber))
+    go : (b : Bool) → ltb i 20 ≡ b → KickerFits (kicker_numbered side (cond b (Some (number_at i)) None))
     go true e = let l = ltb-true i 20 e in one_kicker {n = number_at i} (omega arith, omega arith)
     go false e = no_kicker
 
-kicker_fits : (m : MaybeSide) (g : Game) (home away : Team) (f : FieldDimensions) (hm am : List PlayerMargins) → KickerFits (kicker_if_any m g home away f hm am)
+kicker_fits : (m : Option Side) (g : Game) (home away : Team) (f : FieldDimensions) (hm am : List (Option Margins)) → KickerFits (kicker_if_any m g home away f hm am)
 unfolding determine_kicking_player
-kicker_fits NoSide g home away f hm am = no_kicker
-kicker_fits (Of Home) g home away f hm am = number_fits_holds Home (nearest g.set_play f _ home hm)
-kicker_fits (Of Away) g home away f hm am = number_fits_holds Away (nearest g.set_play f _ away am)
+kicker_fits None g home away f hm am = no_kicker
+kicker_fits (Some Home) g home away f hm am = number_fits_holds Home (nearest g.set_play f _ home hm)
+kicker_fits (Some Away) g home away f hm am = number_fits_holds Away (nearest g.set_play f _ away am)
 
 -- ---- the decision
 pub orderly : (s : Situation) (xs ys : List Float) → Placed (decision_of s xs ys).place → Orderly (decision_of s xs ys)

@@ -4,9 +4,9 @@ use mathlib.Core.List.{List}
 use Prim.Native.Nat.{ℕ}
 use lib.Ieee.{Float}
 use lib.ListN.{length}
+use Rattle.std.specs.Prelude.{Ok}
 use Rattle.game.specs.declared.Situation.{Situation}
 use Rattle.decision.specs.Decision.{decision_of}
-use Rattle.sheet.specs.declared.text.SheetAnswer.TheVariants.{Written}
 use Rattle.call.specs.declared.SheetFor.{SheetFor}
 use Rattle.call.specs.Call.{sheet_answer}
 use Rattle.call.proofs.Claims.{written_accepted, bytes_told}
@@ -20,7 +20,7 @@ use Rattle.reading_holds.proofs.Orderly.{orderly}
 use Rattle.reading_holds.proofs.Sheet.{text_of_read, text_of_items}
 
 -- the bytes that count are the text
-read : (to : SheetFor) (s : Situation) (xs ys : List Float) (sheet : List ℕ) (n : ℕ) → sheet_answer to s xs ys (length sheet) ≡ Written n → Placed (decision_of s xs ys).place → ReadBack to s xs ys sheet n
+read : (to : SheetFor) (s : Situation) (xs ys : List Float) (sheet : List ℕ) (n : ℕ) → sheet_answer to s xs ys (length sheet) ≡ Ok n → Placed (decision_of s xs ys).place → ReadBack to s xs ys sheet n
 read to s xs ys sheet n e p =
     let bytes = bytes_told to s xs ys sheet n e in
     record {

@@ -3,16 +3,17 @@ use mathlib.Core.Path.{◌≡◌, refl, sym, ap, ◌∙◌}
 use mathlib.Core.Bool.{Bool, true, false, not, ◌&&◌, cond, true≢false}
 use mathlib.Core.List.{List, [], ◌∷◌}
 use Prim.Native.Nat.{ℕ}
+use borrow.Author.Tests.{ne_eqb}
 use lib.Dec.{eqb}
 use lib.ListN.{length}
 use Rattle.lists.proofs.Bools.{both, both_true, or_right}
 use Rattle.lines.specs.declared.Row.{Row}
 use Rattle.fields.specs.Fields.{column_form, rows_in}
 use Rattle.reading.specs.Rules.{is_body, is_header, is_sheet}
-use Rattle.reading.specs.Reading.{counted}
-use Rattle.reading.proofs.Answers.{refusal_is, accepted_view}
+use Rattle.reading.specs.Reading.{counted, read_refusal}
+use Rattle.reading.proofs.Answers.{refusal_is, number_told, accepted_view}
 use Rattle.reading.proofs.Longest.{longest}
-use Rattle.reading_holds.specs.Claims.{RefusalsClaim, LongestClaim}
+use Rattle.reading_holds.specs.Claims.{RefusalsClaim, NumberClaim, LongestClaim}
 
 -- ---- the header of a sheet
 -- the parts of the test
@@ -61,6 +62,9 @@ refusals text = record {
 
     sheet : Bool
     sheet = is_sheet (rows_in text)
+
+pub number : NumberClaim
+number text z = number_told text _ (ne_eqb (read_refusal text) 0 z) refl
 
 -- ---- the longest
 pub longest_text : LongestClaim

@@ -1,16 +1,14 @@
 -- The items of a decision, in the sheet's order. Definitions only.
-use Rattle.std.specs.Prelude.{List, [], ◌∷◌, ◌++◌, ℕ, ◌+◌, ltb, Float, get_or, length}
+use Rattle.std.specs.Prelude.{List, [], ◌∷◌, ◌++◌, ℕ, ◌+◌, ltb, Float, get_or, length, Option, None, Some}
 use Rattle.lists.specs.Gather.{flat_to, only_if}
 use Rattle.lists.specs.Table.{table}
 use Rattle.game.specs.Codes.{judgment_code}
 use Rattle.game.specs.declared.BallJudgment.{BallJudgment}
 use Rattle.game.specs.declared.Decision.{Decision}
 use Rattle.game.specs.declared.KickingPlayer.{KickingPlayer}
-use Rattle.game.specs.declared.KickingPlayer.TheVariants.{NoKicker, Kicker}
 use Rattle.game.specs.declared.Placement.{Placement}
 use Rattle.game.specs.declared.Placement.TheVariants.{NoPlace, BallAt, PlayerAt}
 use Rattle.game.specs.declared.PlayerList.{PlayerList}
-use Rattle.game.specs.declared.PlayerVerdict.{PlayerVerdict}
 use Rattle.game.specs.declared.Positioning.{Positioning}
 use Rattle.game.specs.declared.Positioning.TheVariants.{Legal}
 use Rattle.game.specs.declared.Side.{Side}
@@ -23,11 +21,11 @@ use Rattle.items.specs.declared.Who.TheVariants.{TheBall, OnePlayer}
 use Rattle.places_hold.specs.Claims.{unsigned_zero}
 
 -- the verdict on the player at the place i
-abbrev pub verdict_on : List PlayerVerdict → ℕ → Positioning
-verdict_on verdicts i = (get_or verdicts i (record { verdict = Legal })).verdict
+abbrev pub verdict_on : List Positioning → ℕ → Positioning
+verdict_on verdicts i = get_or verdicts i Legal
 
 -- the verdicts on a side's players that are not Legal
-unfoldable pub verdict_items : Side → List PlayerVerdict → List Item
+unfoldable pub verdict_items : Side → List Positioning → List Item
 verdict_items side verdicts = flat_to 20 (λ i. only_if (ltb 0 (verdict_code verdicts i)) (Verdict side (i + 1) (verdict_on verdicts i)))
 
 -- an item for each number of a list in its order, by the number and the place in the list
@@ -47,9 +45,9 @@ abbrev pub moved_items : Side → PlayerList → List Item
 moved_items side l = list_items (λ n k. HasMoved side n) l
 
 -- the kicking player, where there is one
-abbrev pub kicker_items : KickingPlayer → List Item
-kicker_items NoKicker = []
-kicker_items (Kicker side n) = Kicks side n ∷ []
+abbrev pub kicker_items : Option KickingPlayer → List Item
+kicker_items None = []
+kicker_items (Some k) = Kicks k.side k.number ∷ []
 
 -- the judgment, where there is one
 unfoldable pub ball_items : BallJudgment → List Item

@@ -1,11 +1,9 @@
 -- Records of a list of bytes, and lent bytes with a text at their front. Definitions only.
-use Rattle.std.specs.Prelude.{Bool, false, ◌&&◌, cond, List, [], ◌∷◌, ℕ, ◌+◌, ◌-◌, eqb, ltb, length, take, drop, get_or}
+use Rattle.std.specs.Prelude.{Bool, false, ◌&&◌, cond, Option, None, Some, Result, Ok, Err, List, [], ◌∷◌, ℕ, ◌+◌, ◌-◌, eqb, ltb, length, take, drop, get_or}
 use Rattle.lists.specs.Every.{every_to}
-use Rattle.numbers.specs.declared.Reading.{Reading}
-use Rattle.numbers.specs.declared.Reading.TheVariants as Numbers
+use Rattle.numbers.specs.declared.Unread.{Unread}
 use Rattle.numbers.specs.Numbers.{numbers_of, reading_of, stored}
-use Rattle.records.specs.declared.Found.{Found}
-use Rattle.records.specs.declared.Found.TheVariants.{Broken, Whole}
+use Rattle.records.specs.declared.Record.{Record}
 
 -- ---- a record
 -- the line of a head at a place
@@ -17,22 +15,21 @@ abbrev pub head_at : List ℕ → ℕ → List ℕ
 head_at list at = stored (numbers_of (line_at list at)) (0 ∷ 0 ∷ 0 ∷ 0 ∷ [])
 
 -- a head has four numbers and a line feed at its end
-abbrev pub is_head : Reading → ℕ → Bool
-is_head (Numbers.Read n) last = eqb n 4 && eqb last 10
-is_head (Numbers.NotANumber k) last = false
-is_head (Numbers.TooLarge k) last = false
+abbrev pub is_head : Result ℕ Unread → ℕ → Bool
+is_head (Ok n) last = eqb n 4 && eqb last 10
+is_head (Err unread) last = false
 
 -- the input begins at its place and the answer after it; a list of so many bytes has both whole
-unfoldable pub framed : ℕ → ℕ → List ℕ → Found
+unfoldable pub framed : ℕ → ℕ → List ℕ → Option Record
 framed size input head =
-    cond (ltb (size - input) (get_or head 2 0 + get_or head 3 0)) Broken
-    (Whole (record { kind = get_or head 0 0; lent = get_or head 1 0; input = input; answer = input + get_or head 2 0; next = input + (get_or head 2 0 + get_or head 3 0) }))
+    cond (ltb (size - input) (get_or head 2 0 + get_or head 3 0)) None
+    (Some (record { kind = get_or head 0 0; lent = get_or head 1 0; input = input; answer = input + get_or head 2 0; next = input + (get_or head 2 0 + get_or head 3 0) }))
 
 -- what stands at a place of a list: a head, an input and an answer
-unfoldable pub record_at : List ℕ → ℕ → Found
+unfoldable pub record_at : List ℕ → ℕ → Option Record
 record_at list at =
-    cond (ltb (length list - at) 45) Broken
-    (cond (is_head (reading_of (line_at list at)) (get_or list (at + 44) 0)) (framed (length list) (at + 45) (head_at list at)) Broken)
+    cond (ltb (length list - at) 45) None
+    (cond (is_head (reading_of (line_at list at)) (get_or list (at + 44) 0)) (framed (length list) (at + 45) (head_at list at)) None)
 
 -- ---- lent bytes
 -- each byte is the text's, and after the text's end the one that was lent

@@ -7,8 +7,6 @@
 ghost use Rattle.std.specs.Prelude.{◌≡◌, ◌≤◌, length, get_or};
 ghost use Rattle.records.specs.Records as Spec;
 
-use numbers::Reading;
-
 // A record: its kind, the room that is lent, and the places of the list where its input, its answer and what comes after it begin.
 #[derive(Clone, Copy)]
 pub struct Record {
@@ -19,58 +17,44 @@ pub struct Record {
     pub next: usize,
 }
 
-// What stands at a place of a list: a whole record, or something else.
-#[derive(Clone, Copy)]
-pub enum Found {
-    Broken,
-    Whole(Record),
-}
-
-fn wide(x: u32) -> usize
-    ensures { (result ≡ x) × (result ≤ 4294967295) }
-{
-    x as usize
-}
-
-// The record of a head whose input begins at this place, in a list of so many bytes.
-fn framed(size: usize, input: usize, head: &[u32; 4]) -> Found
+// The record of a head whose input begins at this place, in a list of so many bytes, if they are enough.
+fn framed(size: usize, input: usize, head: &[u32; 4]) -> Option<Record>
     requires { input ≤ size }
     ensures { result ≡ Spec.framed size input head.now }
 {
-    let n = wide(head[2]);
-    let m = wide(head[3]);
+    let n = head[2] as usize;
+    let m = head[3] as usize;
     if size - input < n + m {
-        return Found::Broken;
+        return None;
     }
-    Found::Whole(Record {
+    Some(Record {
         kind: head[0],
-        lent: wide(head[1]),
+        lent: head[1] as usize,
         input,
         answer: input + n,
         next: input + (n + m),
     })
 }
 
-// What stands at a place of a list.
-pub fn record_at(list: &[u8], at: usize) -> Found
+// The record at a place of a list, if a whole one stands there.
+pub fn record_at(list: &[u8], at: usize) -> Option<Record>
     ensures { result ≡ Spec.record_at list.now at }
 {
     if list.len() <= at {
-        return Found::Broken;
+        return None;
     }
     if list.len() - at < 45 {
-        return Found::Broken;
+        return None;
     }
     let end = at + 45;
     let mut head = [0u32; 4];
-    let reading = numbers::read_numbers(&list[at..end], &mut head);
-    let Reading::Read(n) = reading else {
-        return Found::Broken;
+    let Ok(n) = numbers::read_numbers(&list[at..end], &mut head) else {
+        return None;
     };
     if (n == 4) & (list[at + 44] == b'\n') {
         return framed(list.len(), end, &head);
     }
-    Found::Broken
+    None
 }
 
 // The byte at a place of a text; after its end, the one that was lent.
@@ -88,10 +72,8 @@ pub fn holds(bytes: &[u8], text: &[u8], fill: u8) -> bool
     ensures { result ≡ Spec.holds text.now fill bytes.now }
 {
     let mut same = true;
-    let mut i: usize = 0;
-    while i < bytes.len() {
-        same = same & (bytes[i] == byte_at(text, i, fill));
-        i += 1;
+    for (i, byte) in bytes.iter().enumerate() {
+        same &= *byte == byte_at(text, i, fill);
     }
     same
 }

@@ -9,6 +9,7 @@ use lib.Ieee.{Float}
 use lib.Dec.{eqb}
 use lib.IntN.{ℤ, pos}
 use lib.ListN.{length, drop, length-append}
+use Rattle.std.specs.Prelude.{Result}
 use Rattle.lists.specs.Put.{fronted}
 use Rattle.game.specs.declared.Side.{Side}
 use Rattle.game.specs.declared.Situation.{Situation}
@@ -19,7 +20,7 @@ use Rattle.words.specs.Words.{side_of, situation_of}
 use Rattle.call.specs.declared.SheetFor.{SheetFor}
 use Rattle.call.specs.Call.{sheet_answer, sheet_after}
 use Rattle.coach.specs.Coach.{sentence_answer, sentence_after}
-use Rattle.sheet.specs.declared.text.SheetAnswer.{SheetAnswer}
+use Rattle.refusal.specs.declared.Refusal.{Refusal}
 use Rattle.referee_c.specs.Entries.{minus, check_number, answer_number, number_for, bytes_for, is_coach_asked, coach_number, coach_bytes, candidates_number}
 
 -- ---- whether words are a situation, by the two tests: their number, and how many are within
@@ -59,11 +60,11 @@ module _ (ws : List ℕ) where
       go false all e = let z : ◌≡◌ {A = ℕ} 0 1 = cc in absurd (omega arith)
 
 -- ---- an entry that is asked something, and answers and leaves by a call; otherwise it answers -100 and changes nothing
-module _ (asked : Bool) (answer : SheetAnswer) (after lent : List ℕ) where
+module _ (asked : Bool) (answer : Result ℕ Refusal) (after lent : List ℕ) where
   not_asked : asked ≡ false → (minus 100 ≡ cond asked (answer_number answer) (minus 100)) × (lent ≡ cond asked after lent)
   not_asked f = (ap (λ (b : Bool). cond b (answer_number answer) (minus 100)) (sym f), ap (λ (b : Bool). cond b after lent) (sym f))
 
-  is_asked : (a : SheetAnswer) (next : List ℕ) → asked ≡ true → a ≡ answer → next ≡ after → (answer_number a ≡ cond asked (answer_number answer) (minus 100)) × (next ≡ cond asked after lent)
+  is_asked : (a : Result ℕ Refusal) (next : List ℕ) → asked ≡ true → a ≡ answer → next ≡ after → (answer_number a ≡ cond asked (answer_number answer) (minus 100)) × (next ≡ cond asked after lent)
   is_asked a next t e p = (ap answer_number e ∙ ap (λ (b : Bool). cond b (answer_number answer) (minus 100)) (sym t), p ∙ ap (λ (b : Bool). cond b after lent) (sym t))
 
 module _ (to : SheetFor) (ws : List ℕ) (xs ys : List Float) (sheet : List ℕ) where
@@ -73,7 +74,7 @@ module _ (to : SheetFor) (ws : List ℕ) (xs ys : List Float) (sheet : List ℕ)
   no_situation f = not_asked (is_situation ws) (sheet_answer to (situation_of ws) xs ys (length sheet)) (sheet_after to (situation_of ws) xs ys sheet) sheet f
 
   -- they are s
-  pub a_situation : (s : Situation) (a : SheetAnswer) (next : List ℕ) → is_situation ws ≡ true → s ≡ situation_of ws → a ≡ sheet_answer to s xs ys (length sheet) → next ≡ sheet_after to s xs ys sheet
+  pub a_situation : (s : Situation) (a : Result ℕ Refusal) (next : List ℕ) → is_situation ws ≡ true → s ≡ situation_of ws → a ≡ sheet_answer to s xs ys (length sheet) → next ≡ sheet_after to s xs ys sheet
       → (answer_number a ≡ number_for to ws xs ys (length sheet)) × (next ≡ bytes_for to ws xs ys sheet)
   unfolding number_for bytes_for
   a_situation s a next t same e p =
@@ -87,7 +88,7 @@ module _ (ws : List ℕ) (xs ys : List Float) (side n : ℕ) (text : List ℕ) w
   no_player f = not_asked (is_coach_asked ws side) (sentence_answer (situation_of ws) xs ys (side_of side) n (length text)) (sentence_after (situation_of ws) xs ys (side_of side) n text) text f
 
   -- they are s, and the side is z
-  pub a_player : (s : Situation) (z : Side) (a : SheetAnswer) (next : List ℕ) → is_coach_asked ws side ≡ true → s ≡ situation_of ws → z ≡ side_of side → a ≡ sentence_answer s xs ys z n (length text) → next ≡ sentence_after s xs ys z n text
+  pub a_player : (s : Situation) (z : Side) (a : Result ℕ Refusal) (next : List ℕ) → is_coach_asked ws side ≡ true → s ≡ situation_of ws → z ≡ side_of side → a ≡ sentence_answer s xs ys z n (length text) → next ≡ sentence_after s xs ys z n text
       → (answer_number a ≡ coach_number ws xs ys side n (length text)) × (next ≡ coach_bytes ws xs ys side n text)
   unfolding coach_number coach_bytes
   a_player s z a next t same team e p =

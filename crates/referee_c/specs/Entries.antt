@@ -1,6 +1,6 @@
 -- What the C entries answer: a refusal n as -n, and -100 for words that are no situation. Definitions only.
 -- They are of IEEE 754's default float mode, the only one that the language has, so that -101, the answer in another one, is not here.
-use Rattle.std.specs.Prelude.{Bool, ◌&&◌, cond, List, [], ◌∷◌, ℕ, ◌+◌, eqb, leb, Float, ℤ, pos, neg_ℤ, length}
+use Rattle.std.specs.Prelude.{Bool, ◌&&◌, cond, Option, None, Some, Result, Ok, Err, List, [], ◌∷◌, ℕ, ◌+◌, eqb, leb, Float, ℤ, pos, neg_ℤ, length}
 use Rattle.std.specs.Float.{binary32}
 use Rattle.std.specs.Float.Ieee.{to_bits}
 use Rattle.candidates.specs.Candidates.{refusal_of, answer_of as candidates_of}
@@ -17,13 +17,11 @@ use Rattle.call.specs.declared.SheetFor.{SheetFor}
 use Rattle.call.specs.declared.SheetFor.TheVariants.{Desk, Display}
 use Rattle.call.specs.Call.{sheet_answer, sheet_after}
 use Rattle.coach.specs.Coach.{sentence_answer, sentence_after}
-use Rattle.reading.specs.Reading.{sheet_read, numbers_read}
-use Rattle.reading.specs.declared.SheetRead.{SheetRead}
-use Rattle.reading.specs.declared.SheetRead.TheVariants.{NotRead, Lines}
-use Rattle.reading.specs.declared.LineRead.{LineRead}
-use Rattle.reading.specs.declared.LineRead.TheVariants.{RefusedLine, NoSuchLine, LineOf}
-use Rattle.sheet.specs.declared.text.SheetAnswer.{SheetAnswer}
-use Rattle.sheet.specs.declared.text.SheetAnswer.TheVariants.{Refused, Written}
+use Rattle.lines.specs.declared.Row.{Row}
+use Rattle.reading.specs.Reading.{number_of, sheet_read, numbers_read}
+use Rattle.reading.specs.declared.NoSheet.{NoSheet}
+use Rattle.refusal.specs.Refusal.{number_of as refusal_number}
+use Rattle.refusal.specs.declared.Refusal.{Refusal}
 
 -- -n
 abbrev pub minus : ℕ → ℤ
@@ -34,9 +32,9 @@ unfoldable pub check_number : List ℕ → ℤ
 check_number ws = cond (eqb (length ws) word_count) (pos (cond (eqb (words_within ws) word_count) 0 (words_within ws + 1))) (minus 100)
 
 -- of the sheet's answer
-abbrev pub answer_number : SheetAnswer → ℤ
-answer_number (Refused n) = minus n
-answer_number (Written n) = pos n
+abbrev pub answer_number : Result ℕ Refusal → ℤ
+answer_number (Err refusal) = minus (refusal_number refusal)
+answer_number (Ok n) = pos n
 
 -- of words, the earlier places and the number of bytes lent, for the desk or the display
 unfoldable pub number_for : SheetFor → List ℕ → List Float → List Float → ℕ → ℤ
@@ -108,25 +106,25 @@ place_after ws xs ys place = cond (is_place_asked ws (length place)) (fronted (p
 
 -- ---- reading a sheet
 -- of what is read of it
-abbrev pub lines_number : SheetRead → ℤ
-lines_number (NotRead n) = minus n
-lines_number (Lines n) = pos n
+abbrev pub lines_number : Result ℕ NoSheet → ℤ
+lines_number (Err refusal) = minus (number_of refusal)
+lines_number (Ok n) = pos n
 
 -- of a text
 unfoldable pub read_number : List ℕ → ℤ
 read_number text = lines_number (sheet_read text)
 
 -- of what is read of a line: 1, or 0 where there is none
-abbrev pub line_number : LineRead → ℤ
-line_number (RefusedLine n) = minus n
-line_number NoSuchLine = pos 0
-line_number (LineOf r) = pos 1
+abbrev pub line_number : Result (Option Row) NoSheet → ℤ
+line_number (Err refusal) = minus (number_of refusal)
+line_number (Ok None) = pos 0
+line_number (Ok (Some r)) = pos 1
 
 -- the four words of an item, none without one
-abbrev pub line_words : LineRead → List ℕ
-line_words (RefusedLine n) = []
-line_words NoSuchLine = []
-line_words (LineOf r) = r.kind ∷ r.side ∷ r.number ∷ r.value ∷ []
+abbrev pub line_words : Result (Option Row) NoSheet → List ℕ
+line_words (Err refusal) = []
+line_words (Ok None) = []
+line_words (Ok (Some r)) = r.kind ∷ r.side ∷ r.number ∷ r.value ∷ []
 
 -- of a text, the line that is asked for and the number of words lent, of which there must be four
 unfoldable pub item_number : List ℕ → ℕ → ℕ → ℤ

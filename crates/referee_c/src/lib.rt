@@ -17,8 +17,9 @@ ghost use Rattle.referee_c.specs.Entries as Spec;
 use call::SheetFor;
 use columns::layout::WORDS;
 use game::Placement;
-use reading::{LineRead, SheetRead};
-use sheet::SheetAnswer;
+use lines::Row;
+use reading::NoSheet;
+use refusal::Refusal;
 
 // A refusal as its number below 0.
 fn minus(n: u8) -> i64
@@ -28,13 +29,13 @@ fn minus(n: u8) -> i64
 }
 
 // The number of bytes written, or the refusal.
-fn answer_number(answer: SheetAnswer) -> i64
+fn answer_number(answer: Result<usize, Refusal>) -> i64
     requires { bytes_in answer < 9223372036854775808 }
     ensures { result ≡ Spec.answer_number answer }
 {
     match answer {
-        SheetAnswer::Refused(n) => minus(n),
-        SheetAnswer::Written(n) => n as i64,
+        Err(refused) => minus(refusal::number_of(refused)),
+        Ok(n) => n as i64,
     }
 }
 
@@ -206,22 +207,22 @@ pub extern "C" fn referee_read_sheet(text: &[u8]) -> i64
 {
     let read = reading::read_sheet(text);
     match read {
-        SheetRead::NotRead(n) => minus(n),
-        SheetRead::Lines(n) => n as i64,
+        Err(no_sheet) => minus(reading::number_of(no_sheet)),
+        Ok(n) => n as i64,
     }
 }
 
 // Stores the numbers of a line in the first four of the lent words, where there is one.
 #[tactic(auto, unfolding(lists::specs::Put::fronted))]
-fn write_item(found: LineRead, item: &mut [u32]) -> i64
+fn write_item(found: Result<Option<Row>, NoSheet>, item: &mut [u32]) -> i64
     requires { 4 ≤ length item.old }
     ensures value { result ≡ Spec.line_number found }
     ensures item_after { item.new ≡ fronted (Spec.line_words found) item.old }
 {
     match found {
-        LineRead::RefusedLine(n) => minus(n),
-        LineRead::NoSuchLine => 0,
-        LineRead::LineOf(row) => {
+        Err(refusal) => minus(reading::number_of(refusal)),
+        Ok(None) => 0,
+        Ok(Some(row)) => {
             item[0] = row.kind;
             item[1] = row.side;
             item[2] = row.number;

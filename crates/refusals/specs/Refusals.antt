@@ -1,5 +1,5 @@
 -- What is refused: requirements 1 to 5 of document 01's table, in their order. Definitions only.
-use Rattle.std.specs.Prelude.{Bool, true, ◌&&◌, ◌||◌, List, [], ◌∷◌, ℕ, leb, eqb, length, get_or, Float}
+use Rattle.std.specs.Prelude.{Bool, true, ◌&&◌, ◌||◌, List, [], ◌∷◌, ℕ, leb, eqb, length, get_or, Float, Option, None, Some}
 use Rattle.std.specs.Float.{nan}
 use Rattle.std.specs.Float.Ieee.{neg, lt, le}
 use Rattle.lists.specs.Every.{every_to}
@@ -8,20 +8,13 @@ use Rattle.floats.specs.Arithmetic.{zero32, sixty_fourth, one, four, sixty_four}
 use Rattle.game.specs.Players.{player_at, min_number, max_number}
 use Rattle.game.specs.declared.FieldDimensions.{FieldDimensions}
 use Rattle.game.specs.declared.PlayerPose.{PlayerPose}
-use Rattle.game.specs.declared.SeenPose.{SeenPose}
-use Rattle.game.specs.declared.SeenPose.TheVariants.{Absent, Present}
-use Rattle.game.specs.declared.ReferencePose.{ReferencePose}
-use Rattle.game.specs.declared.ReferencePose.TheVariants.{NoReference, Reference}
 use Rattle.game.specs.declared.Player.{Player}
 use Rattle.game.specs.declared.Team.{Team}
 use Rattle.game.specs.declared.Ball.{Ball}
-use Rattle.game.specs.declared.MaybeNumber.{MaybeNumber}
-use Rattle.game.specs.declared.MaybeNumber.TheVariants.{NoNumber, Number}
-use Rattle.game.specs.declared.MaybeRestart.{MaybeRestart}
-use Rattle.game.specs.declared.MaybeRestart.TheVariants.{NoRestart, InEffect}
 use Rattle.game.specs.declared.Wish.{Wish}
 use Rattle.game.specs.declared.Wish.TheVariants.{Nothing, BallAtRestart, BallInSet, ForPenalty, ForPenaltyShot, Goalkeeper}
 use Rattle.game.specs.declared.Situation.{Situation}
+use Rattle.game.specs.declared.Restart.{Restart}
 
 -- from lo to hi; a NaN is not
 abbrev pub within : Float → Float → Float → Bool
@@ -62,13 +55,13 @@ is_radius r = lt zero32 r && le r one
 unfoldable pub pose_fits : PlayerPose → Bool
 pose_fits p = is_coordinate p.x && is_coordinate p.y && is_coordinate p.theta && is_radius p.radius
 
-abbrev pub seen_fits : SeenPose → Bool
-seen_fits Absent = true
-seen_fits (Present p) = pose_fits p
+abbrev pub seen_fits : Option PlayerPose → Bool
+seen_fits None = true
+seen_fits (Some p) = pose_fits p
 
-abbrev pub reference_fits : ReferencePose → Bool
-reference_fits NoReference = true
-reference_fits (Reference p) = pose_fits p
+abbrev pub reference_fits : Option PlayerPose → Bool
+reference_fits None = true
+reference_fits (Some p) = pose_fits p
 
 -- the allowance of an absent player too
 abbrev pub player_fits : Player → Bool
@@ -101,13 +94,13 @@ ball_fits b = is_coordinate b.x && is_coordinate b.y && is_coordinate b.z
 abbrev pub is_player_number : ℕ → Bool
 is_player_number n = leb min_number n && leb n max_number
 
-abbrev pub number_fits : MaybeNumber → Bool
-number_fits NoNumber = true
-number_fits (Number n) = is_player_number n
+abbrev pub number_fits : Option ℕ → Bool
+number_fits None = true
+number_fits (Some n) = is_player_number n
 
-abbrev pub restart_fits : MaybeRestart → Bool
-restart_fits NoRestart = true
-restart_fits (InEffect r) = number_fits r.kicker
+abbrev pub restart_fits : Option Restart → Bool
+restart_fits None = true
+restart_fits (Some r) = number_fits r.kicker
 
 abbrev pub wish_fits : Wish → Bool
 wish_fits Nothing = true
@@ -117,7 +110,7 @@ wish_fits (ForPenalty s n) = is_player_number n
 wish_fits (ForPenaltyShot s n) = is_player_number n
 wish_fits (Goalkeeper s) = true
 
-unfoldable pub numbers_fit : MaybeNumber → MaybeNumber → MaybeRestart → Wish → Bool
+unfoldable pub numbers_fit : Option ℕ → Option ℕ → Option Restart → Wish → Bool
 numbers_fit home away restart wish = number_fits home && number_fits away && restart_fits restart && wish_fits wish
 
 -- ---- 5: the distance is NaN, or above 0 and below 1/64

@@ -3,12 +3,11 @@
 
 ghost use Rattle.std.specs.Prelude.{◌≡◌};
 ghost use Rattle.lists.specs.Refusals.{first_refusal};
+ghost use Rattle.refusal.specs.Refusal.{unless_refused};
 ghost use Rattle.refusals.specs.Refusals as Spec;
 
-use game::{
-    FieldDimensions, MaybeNumber, MaybeRestart, Player, PlayerPose, ReferencePose, SeenPose,
-    Situation, Team, Wish,
-};
+use game::{FieldDimensions, Player, PlayerPose, Restart, Situation, Team, Wish};
+use refusal::Refusal;
 
 // From lo to hi. A NaN is not.
 fn is_within(lo: f32, x: f32, hi: f32) -> bool
@@ -59,21 +58,21 @@ fn pose_fits(p: PlayerPose) -> bool
         & ((0.0 < p.radius) & (p.radius <= 1.0))
 }
 
-fn seen_fits(pose: SeenPose) -> bool
+fn seen_fits(pose: Option<PlayerPose>) -> bool
     ensures { result ≡ Spec.seen_fits pose }
 {
     match pose {
-        SeenPose::Absent => true,
-        SeenPose::Present(p) => pose_fits(p),
+        None => true,
+        Some(p) => pose_fits(p),
     }
 }
 
-fn reference_fits(pose: ReferencePose) -> bool
+fn reference_fits(pose: Option<PlayerPose>) -> bool
     ensures { result ≡ Spec.reference_fits pose }
 {
     match pose {
-        ReferencePose::NoReference => true,
-        ReferencePose::Reference(p) => pose_fits(p),
+        None => true,
+        Some(p) => pose_fits(p),
     }
 }
 
@@ -91,11 +90,9 @@ fn team_fits(team: Team) -> bool
 {
     let players = team.players;
     let mut ok = true;
-    let mut i: usize = 0;
-    while i < 20 {
+    for i in 0..20 {
         let player = players[i];
         ok = ok & player_fits(player);
-        i += 1;
     }
     ok
 }
@@ -104,10 +101,8 @@ fn places_fit(places: &[f32]) -> bool
     ensures { result ≡ Spec.places_fit places.now }
 {
     let mut ok = true;
-    let mut i: usize = 0;
-    while i < places.len() {
+    for i in 0..places.len() {
         ok = ok & is_coordinate(places[i]);
-        i += 1;
     }
     ok
 }
@@ -118,21 +113,21 @@ fn is_player_number(n: u8) -> bool
     (game::MIN <= n) & (n <= game::MAX)
 }
 
-fn number_fits(n: MaybeNumber) -> bool
+fn number_fits(n: Option<u8>) -> bool
     ensures { result ≡ Spec.number_fits n }
 {
     match n {
-        MaybeNumber::NoNumber => true,
-        MaybeNumber::Number(k) => is_player_number(k),
+        None => true,
+        Some(k) => is_player_number(k),
     }
 }
 
-fn restart_fits(restart: MaybeRestart) -> bool
+fn restart_fits(restart: Option<Restart>) -> bool
     ensures { result ≡ Spec.restart_fits restart }
 {
     match restart {
-        MaybeRestart::NoRestart => true,
-        MaybeRestart::InEffect(r) => {
+        None => true,
+        Some(r) => {
             let kicker = r.kicker;
             number_fits(kicker)
         }
@@ -152,32 +147,38 @@ fn wish_fits(wish: Wish) -> bool
     }
 }
 
-// The number of the first of the five that does not hold, or 0.
-fn first_failing(field: bool, poses: bool, ball: bool, numbers: bool, distance: bool) -> u8
-    ensures { result ≡ first_refusal (Spec.five field poses ball numbers distance) }
+// The refusal of the first of the five that does not hold, where there is one.
+fn first_failing(
+    field: bool,
+    poses: bool,
+    ball: bool,
+    numbers: bool,
+    distance: bool,
+) -> Result<(), Refusal>
+    ensures { result ≡ unless_refused (first_refusal (Spec.five field poses ball numbers distance)) tt }
 {
     if !field {
-        return 1;
+        return Err(Refusal::Field);
     }
     if !poses {
-        return 2;
+        return Err(Refusal::Pose);
     }
     if !ball {
-        return 3;
+        return Err(Refusal::Ball);
     }
     if !numbers {
-        return 4;
+        return Err(Refusal::Number);
     }
     if !distance {
-        return 5;
+        return Err(Refusal::Distance);
     }
-    0
+    Ok(())
 }
 
-// The number of the first refusal, or 0 for none.
+// The first refusal, where there is one.
 #[tactic(auto, unfolding(crate::specs::Refusals::refusal_of, crate::specs::Refusals::requirements_of, crate::specs::Refusals::numbers_fit, crate::specs::Refusals::poses_fit, crate::specs::Refusals::lists_fit))]
-pub fn refusal<'a>(s: Situation, xs: &'a [f32], ys: &'a [f32]) -> u8
-    ensures { result ≡ Spec.refusal_of s xs.now ys.now }
+pub fn refusal<'a>(s: Situation, xs: &'a [f32], ys: &'a [f32]) -> Result<(), Refusal>
+    ensures { result ≡ unless_refused (Spec.refusal_of s xs.now ys.now) tt }
 {
     let field = s.field;
     let home = s.home;

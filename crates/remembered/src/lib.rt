@@ -4,66 +4,38 @@
 ghost use Rattle.std.specs.Prelude.{◌≡◌};
 ghost use Rattle.remembered.specs.Remembered as Spec;
 
-use game::{
-    Ball, FieldDimensions, Game, MaybeMargins, Player, PlayerMargins, PlayerPose, SeenPose, Side,
-    Team,
-};
+use game::{Ball, FieldDimensions, Game, Margins, Player, PlayerPose, Side, Team};
 
 // How much further than when it was unpenalised a returning player may be beyond the edge of the carpet.
 const RETURN_TOLERANCE: f32 = 0.05;
 
-// How far a returning player was beyond the edge of the carpet when it was unpenalised, where it has been seen so.
-#[derive(Clone, Copy)]
-pub enum MaybeAllowance {
-    NoAllowance,
-    Allowed(f32),
-}
-
-// Of one player: it has been penalised and not been on the field since; its allowance; it has been outside the avoidance region since the set play began; it was inside its goal area in the last
+// Of one player: it has been penalised and not been on the field since; its allowance, how far it was beyond the edge of the carpet when it was unpenalised, where it has been seen so; it has been outside the avoidance region since the set play began; it was inside its goal area in the last
 // frame; it was present there.
 #[derive(Clone, Copy)]
 pub struct Remembered {
     pub returning: bool,
-    pub return_allowance: MaybeAllowance,
+    pub return_allowance: Option<f32>,
     pub left_avoidance: bool,
     pub in_goal_area: bool,
     pub present: bool,
 }
 
 // Whether a player is there and a part of it is on the field of play.
-fn is_on_field_of_play(pose: SeenPose, field: FieldDimensions) -> bool
+fn is_on_field_of_play(pose: Option<PlayerPose>, field: FieldDimensions) -> bool
     ensures { result ≡ Spec.is_on_field_of_play pose field }
 {
-    match pose {
-        SeenPose::Absent => false,
-        SeenPose::Present(p) => !geometry::is_outside_field(p, field),
-    }
+    pose.is_some_and(|p| !geometry::is_outside_field(p, field))
 }
 
 // How far a player is beyond the edge of the carpet, at least 0; none where it is absent.
-fn allowance_at(pose: SeenPose, field: FieldDimensions) -> MaybeAllowance
+fn allowance_at(pose: Option<PlayerPose>, field: FieldDimensions) -> Option<f32>
     ensures { result ≡ Spec.allowance_at pose field }
 {
-    match pose {
-        SeenPose::Absent => MaybeAllowance::NoAllowance,
-        SeenPose::Present(p) => {
-            let excess = geometry::carpet_excess(p, field);
-            MaybeAllowance::Allowed(floats::max(excess, 0.0))
-        }
-    }
-}
-
-fn has_allowance(allowance: MaybeAllowance) -> bool
-    ensures { result ≡ Spec.has_allowance allowance }
-{
-    match allowance {
-        MaybeAllowance::NoAllowance => false,
-        MaybeAllowance::Allowed(_) => true,
-    }
+    pose.map(|p| floats::max(geometry::carpet_excess(p, field), 0.0))
 }
 
 // The same with another part of it.
-fn returning_with(r: Remembered, returning: bool, return_allowance: MaybeAllowance) -> Remembered
+fn returning_with(r: Remembered, returning: bool, return_allowance: Option<f32>) -> Remembered
     ensures { result ≡ Spec.returning_with r returning return_allowance }
 {
     Remembered {
@@ -84,13 +56,12 @@ fn update_returning(field: FieldDimensions, player: Player, r: Remembered) -> Re
     let pose = player.pose;
     let allowance = r.return_allowance;
     if !game::is_unpenalized(penalty) {
-        return returning_with(r, true, MaybeAllowance::NoAllowance);
+        return returning_with(r, true, None);
     }
     if is_on_field_of_play(pose, field) {
-        return returning_with(r, false, MaybeAllowance::NoAllowance);
+        return returning_with(r, false, None);
     }
-    let allowed = has_allowance(allowance);
-    if r.returning & !allowed {
+    if r.returning & allowance.is_none() {
         let next = allowance_at(pose, field);
         return returning_with(r, true, next);
     }
@@ -105,7 +76,7 @@ fn update_avoidance(
     ball: Ball,
     side: Side,
     player: Player,
-    margins: MaybeMargins,
+    margins: Option<Margins>,
     left: bool,
 ) -> bool
     ensures { result ≡ Spec.left_avoidance active game field ball side player margins left }
@@ -127,7 +98,7 @@ fn framed_player(
     ball: Ball,
     side: Side,
     player: Player,
-    margins: MaybeMargins,
+    margins: Option<Margins>,
     r: Remembered,
 ) -> Remembered
     ensures { result ≡ Spec.framed_player begun active game field ball side player margins r }
@@ -164,7 +135,7 @@ pub fn framed_players(
     ball: Ball,
     side: Side,
     team: Team,
-    margins: [PlayerMargins; 20],
+    margins: [Option<Margins>; 20],
     remembered: [Remembered; 20],
 ) -> [Remembered; 20]
     ensures { result ≡ Spec.framed_players begun game field ball side team margins remembered }
@@ -172,26 +143,20 @@ pub fn framed_players(
     let active = avoidance::is_avoidance_region_active(game);
     let players = team.players;
     let mut out = remembered;
-    let mut i: usize = 0;
-    while i < 20 {
+    for i in 0..20 {
         let player = players[i];
-        let slot = margins[i];
-        let known = slot.margins;
+        let known = margins[i];
         let r = remembered[i];
         out[i] = framed_player(begun, active, game, field, ball, side, player, known, r);
-        i += 1;
     }
     out
 }
 
 // How far beyond the edge of the carpet a player may be: what is remembered and a tolerance, or nothing.
-fn tolerated(allowance: MaybeAllowance) -> f32
+fn tolerated(allowance: Option<f32>) -> f32
     ensures { result ≡ Spec.tolerated allowance }
 {
-    match allowance {
-        MaybeAllowance::NoAllowance => 0.0,
-        MaybeAllowance::Allowed(a) => a + RETURN_TOLERANCE,
-    }
+    allowance.map_or(0.0, |a| a + RETURN_TOLERANCE)
 }
 
 // A player with what is remembered of it in place of what the frame says.
@@ -211,23 +176,33 @@ fn judged_player(player: Player, r: Remembered) -> Player
     }
 }
 
-// A team with what is remembered of its players in place of what the frame says: allowances and who was inside.
-pub fn judged_team(team: Team, remembered: [Remembered; 20]) -> Team
-    ensures { result ≡ Spec.judged_team team remembered }
+// A team whose players are each changed by what is remembered of it.
+fn mapped_team<F: Fn(Player, Remembered) -> Player>(
+    team: Team,
+    remembered: [Remembered; 20],
+    change: F,
+) -> Team
+    requires { F.IsAlwaysCallable change }
+    ensures { (by : _) → Spec.Gives (F.post change) by → result ≡ Spec.mapped_team by team remembered }
 {
     let goalkeeper = team.goalkeeper;
     let mut players = team.players;
-    let mut i: usize = 0;
-    while i < 20 {
+    for i in 0..20 {
         let player = players[i];
         let r = remembered[i];
-        players[i] = judged_player(player, r);
-        i += 1;
+        players[i] = change(player, r);
     }
     Team {
         players,
         goalkeeper,
     }
+}
+
+// A team with what is remembered of its players in place of what the frame says: allowances and who was inside.
+pub fn judged_team(team: Team, remembered: [Remembered; 20]) -> Team
+    ensures { result ≡ Spec.judged_team team remembered }
+{
+    mapped_team(team, remembered, judged_player)
 }
 
 // A player as it was in the last frame, of which only its presence is remembered; the penalty is the frame's own.
@@ -236,23 +211,13 @@ fn last_seen_player(player: Player, r: Remembered) -> Player
 {
     let reference = player.reference;
     let penalty = player.penalty;
-    if r.present {
-        let there = PlayerPose {
-            x: 0.0,
-            y: 0.0,
-            theta: 0.0,
-            radius: 0.0,
-        };
-        let pose = SeenPose::Present(there);
-        return Player {
-            pose,
-            reference,
-            penalty,
-            allowance: player.allowance,
-            previously_inside: player.previously_inside,
-        };
-    }
-    let pose = SeenPose::Absent;
+    let there = PlayerPose {
+        x: 0.0,
+        y: 0.0,
+        theta: 0.0,
+        radius: 0.0,
+    };
+    let pose = r.present.then_some(there);
     Player {
         pose,
         reference,
@@ -266,17 +231,5 @@ fn last_seen_player(player: Player, r: Remembered) -> Player
 pub fn last_seen_team(team: Team, remembered: [Remembered; 20]) -> Team
     ensures { result ≡ Spec.last_seen_team team remembered }
 {
-    let goalkeeper = team.goalkeeper;
-    let mut players = team.players;
-    let mut i: usize = 0;
-    while i < 20 {
-        let player = players[i];
-        let r = remembered[i];
-        players[i] = last_seen_player(player, r);
-        i += 1;
-    }
-    Team {
-        players,
-        goalkeeper,
-    }
+    mapped_team(team, remembered, last_seen_player)
 }

@@ -74,14 +74,12 @@ fn replay<R: Read>(rt: &impl Print, input: &mut R, buffer: &mut [u8]) -> io::Res
         records: 0,
         open: true,
     };
-    let mut left = MOST;
-    while left > 0 {
+    for _ in 0..MOST {
         if !t.open {
             return Ok(t);
         }
         let outcome = one_record::next(input, buffer)?;
         t = counted(rt, t, outcome)?;
-        left -= 1;
     }
     Ok(t)
 }

@@ -2,7 +2,7 @@
 ghost use Rattle.std.specs.Prelude.{◌≤◌, length};
 
 use super::{queries, sheets};
-use records::{Found, Record};
+use records::Record;
 use std::io;
 use std::io::Read;
 
@@ -54,9 +54,8 @@ pub(crate) fn next<R: Read>(input: &mut R, buffer: &mut [u8]) -> io::Result<Outc
     if n < 45 {
         return Ok(Outcome::Broken);
     }
-    let found = records::record_at(buffer, 0);
-    match found {
-        Found::Whole(r) => rest(input, buffer, r),
-        Found::Broken => Ok(Outcome::Broken),
+    match records::record_at(buffer, 0) {
+        Some(r) => rest(input, buffer, r),
+        None => Ok(Outcome::Broken),
     }
 }

@@ -1,6 +1,5 @@
 // Four floats and the candidates for them, or the refusal.
 use floats::{bits, from_bits};
-use numbers::Reading;
 
 // What each lent place holds before a call; no candidate between bounds has it.
 const FILL: f32 = 1000.0;
@@ -17,15 +16,6 @@ struct Query {
     step: f32,
 }
 
-// How many numbers were read; 0 also where something is no number.
-fn count_of(reading: Reading) -> usize {
-    match reading {
-        Reading::Read(n) => n,
-        Reading::NotANumber(_) => 0,
-        Reading::TooLarge(_) => 0,
-    }
-}
-
 // The pattern at a place of a list; after its end a place is as it was lent.
 fn pattern_at(patterns: &[u32], i: usize) -> u32 {
     if i < patterns.len() {
@@ -37,12 +27,10 @@ fn pattern_at(patterns: &[u32], i: usize) -> u32 {
 
 // Whether the list begins with these patterns, and goes on as it was lent. Of a NaN only that it is one is compared: `bits` gives every NaN one pattern.
 fn holds(list: &[f32], patterns: &[u32]) -> bool {
-    let mut i = 0;
-    while i < list.len() {
-        if bits(list[i]) != bits(from_bits(pattern_at(patterns, i))) {
+    for (i, x) in list.iter().enumerate() {
+        if bits(*x) != bits(from_bits(pattern_at(patterns, i))) {
             return false;
         }
-        i += 1;
     }
     true
 }
@@ -75,13 +63,12 @@ fn answered(q: Query, lent: usize, answer: &[u32], n: usize) -> bool {
     given & (n - 1 == answer[0] as usize)
 }
 
-// Whether the floats of the input, with so many places lent, have this answer.
+// Whether the floats of the input, with so many places lent, have this answer. A text in which something is no number counts as one with none.
 pub(crate) fn agrees(input: &[u8], lent: usize, answer: &[u8]) -> bool {
     let mut patterns = [0u32; 4];
-    let given = numbers::read_numbers(input, &mut patterns);
+    let given = numbers::read_numbers(input, &mut patterns).unwrap_or(0);
     let mut wanted = [0u32; 8201];
-    let told = numbers::read_numbers(answer, &mut wanted);
-    let n = count_of(told);
+    let n = numbers::read_numbers(answer, &mut wanted).unwrap_or(0);
     let q = Query {
         start: from_bits(patterns[0]),
         min: from_bits(patterns[1]),
@@ -89,5 +76,5 @@ pub(crate) fn agrees(input: &[u8], lent: usize, answer: &[u8]) -> bool {
         step: from_bits(patterns[3]),
     };
     let same = answered(q, lent, &wanted, n);
-    same & (count_of(given) == 4)
+    same & (given == 4)
 }

@@ -1,5 +1,5 @@
 -- The Restart record that is in effect: what a touch of the ball, a change of the game and the way of the ball make of it. Definitions only.
-use Rattle.std.specs.Prelude.{Bool, true, false, not, cond, ◌&&◌, ◌||◌, ℕ, eqb, leb, Float}
+use Rattle.std.specs.Prelude.{Bool, true, false, not, cond, ◌&&◌, ◌||◌, ℕ, eqb, leb, Float, Option, None, Some}
 use Rattle.std.specs.Float.{binary32}
 use Rattle.std.specs.Float.Ieee.{of_bits, lt, le}
 use Rattle.floats.specs.Arithmetic.{◌+₃₂◌, ◌-₃₂◌, ◌*₃₂◌, zero32, two}
@@ -8,12 +8,6 @@ use Rattle.game.specs.Game.{opponent, same_side, is_shootout, is_playing}
 use Rattle.game.specs.declared.Ball.{Ball}
 use Rattle.game.specs.declared.FieldDimensions.{FieldDimensions}
 use Rattle.game.specs.declared.Game.{Game}
-use Rattle.game.specs.declared.MaybeNumber.{MaybeNumber}
-use Rattle.game.specs.declared.MaybeNumber.TheVariants.{NoNumber, Number}
-use Rattle.game.specs.declared.MaybeRestart.{MaybeRestart}
-use Rattle.game.specs.declared.MaybeRestart.TheVariants.{NoRestart, InEffect}
-use Rattle.game.specs.declared.MaybeSide.{MaybeSide}
-use Rattle.game.specs.declared.MaybeSide.TheVariants.{NoSide, Of}
 use Rattle.game.specs.declared.Restart.{Restart}
 use Rattle.game.specs.declared.RestartKind.{RestartKind}
 use Rattle.game.specs.declared.RestartKind.TheVariants as kind
@@ -23,7 +17,6 @@ use Rattle.game.specs.declared.Side.{Side}
 use Rattle.game.specs.declared.State.{State}
 use Rattle.game.specs.declared.State.TheVariants.{Initial, Ready, Set, Playing, Finished, Timeout}
 use Rattle.ball.specs.Ball.{is_penalty_shot, has_kicker}
-use Rattle.restarts.specs.declared.TouchCall.{TouchCall}
 use Rattle.restarts.specs.declared.TouchCall.TheVariants as call
 use Rattle.restarts.specs.declared.TouchedRestart.{TouchedRestart}
 
@@ -33,7 +26,7 @@ ball_clearly_moved_distance = of_bits binary32 0x3dcc_cccd
 
 -- ---- the record
 -- with another kicker, kick place and flags
-abbrev pub restart_with : Restart → MaybeNumber → Float → Float → Bool → Bool → Bool → Bool → Restart
+abbrev pub restart_with : Restart → Option ℕ → Float → Float → Bool → Bool → Bool → Bool → Restart
 restart_with r kicker x y other outside far moved =
     record {
       kind = r.kind;
@@ -64,7 +57,7 @@ is_far_from_kick f r b players = leb players 2 && le (two *₃₂ f.center_circl
 -- the first touch by the side that takes the restart is the kick
 unfoldable pub kick_taken : Restart → ℕ → FieldDimensions → Ball → Restart
 kick_taken r n f b =
-    restart_with r (Number n) b.x b.y r.other_touch (r.kicker_touched_outside_center_circle || is_outside_circle f b) r.kicker_touched_far_from_kick r.ball_moved_since_kick
+    restart_with r (Some n) b.x b.y r.other_touch (r.kicker_touched_outside_center_circle || is_outside_circle f b) r.kicker_touched_far_from_kick r.ball_moved_since_kick
 
 -- the kicker touches the ball again
 unfoldable pub touched_again : Restart → FieldDimensions → Ball → ℕ → Restart
@@ -77,18 +70,18 @@ unfoldable pub touched_by_other : Restart → Restart
 touched_by_other r = restart_with r r.kicker r.kick_x r.kick_y true r.kicker_touched_outside_center_circle r.kicker_touched_far_from_kick r.ball_moved_since_kick
 
 -- by who has kicked; `own` tells that the touch is by the side that takes the restart
-abbrev pub after_touch_by : MaybeNumber → Restart → Bool → ℕ → FieldDimensions → Ball → ℕ → Restart
-after_touch_by NoNumber r own n f b players = cond own (kick_taken r n f b) (touched_by_other r)
-after_touch_by (Number k) r own n f b players = cond (own && eqb k n) (touched_again r f b players) (touched_by_other r)
+abbrev pub after_touch_by : Option ℕ → Restart → Bool → ℕ → FieldDimensions → Ball → ℕ → Restart
+after_touch_by None r own n f b players = cond own (kick_taken r n f b) (touched_by_other r)
+after_touch_by (Some k) r own n f b players = cond (own && eqb k n) (touched_again r f b players) (touched_by_other r)
 
 -- after a touch by the player with the number n, whose side has so many players on the field
 unfoldable pub after_touch : Restart → Bool → ℕ → FieldDimensions → Ball → ℕ → Restart
 after_touch r own n f b players = after_touch_by r.kicker r own n f b players
 
 -- the same by who has kicked: the kicker, before anybody else and after the ball has clearly moved
-abbrev pub is_second_touch_by : MaybeNumber → Restart → Bool → ℕ → Bool
-is_second_touch_by NoNumber r own n = false
-is_second_touch_by (Number k) r own n = own && eqb k n && (not r.other_touch && r.ball_moved_since_kick)
+abbrev pub is_second_touch_by : Option ℕ → Restart → Bool → ℕ → Bool
+is_second_touch_by None r own n = false
+is_second_touch_by (Some k) r own n = own && eqb k n && (not r.other_touch && r.ball_moved_since_kick)
 
 -- the kicker plays the ball a second time
 unfoldable pub is_second_touch : Restart → Bool → ℕ → Bool
@@ -112,21 +105,21 @@ is_double_touch g play players = forbids_second_touch play && not (is_shootout g
 -- after the second touch by a player of this side: a penalty shot ends; a double touch lifts the restart and gives the opponents an indirect free kick
 unfoldable pub after_second_touch : Game → Restart → Side → ℕ → TouchedRestart
 after_second_touch g next side players =
-    cond (is_penalty_shot next.kind) (record { restart = InEffect next; call = call.PenaltyShotEnded })
-    (cond (is_double_touch g next.set_play players) (record { restart = NoRestart; call = call.IndirectFreeKick (opponent side) })
-    (record { restart = InEffect next; call = call.NoCall }))
+    cond (is_penalty_shot next.kind) (record { restart = Some next; call = Some call.PenaltyShotEnded })
+    (cond (is_double_touch g next.set_play players) (record { restart = None; call = Some (call.IndirectFreeKick (opponent side)) })
+    (record { restart = Some next; call = None }))
 
 -- the touch of a restart
 abbrev pub restart_touched : Game → FieldDimensions → Ball → Side → ℕ → ℕ → Restart → TouchedRestart
 restart_touched g f b side n players r =
     let own = same_side side r.side in
     let next = after_touch r own n f b players in
-    cond (is_second_touch r own n) (after_second_touch g next side players) (record { restart = InEffect next; call = call.NoCall })
+    cond (is_second_touch r own n) (after_second_touch g next side players) (record { restart = Some next; call = None })
 
 -- where one is in effect
-unfoldable pub touched_restart : Game → FieldDimensions → Ball → Side → ℕ → ℕ → MaybeRestart → TouchedRestart
-touched_restart g f b side n players NoRestart = record { restart = NoRestart; call = call.NoCall }
-touched_restart g f b side n players (InEffect r) = restart_touched g f b side n players r
+unfoldable pub touched_restart : Game → FieldDimensions → Ball → Side → ℕ → ℕ → Option Restart → TouchedRestart
+touched_restart g f b side n players None = record { restart = None; call = None }
+touched_restart g f b side n players (Some r) = restart_touched g f b side n players r
 
 -- ---- observe: what changes of the game make of the restart
 -- the kind of the restart that a set play begins
@@ -147,7 +140,7 @@ begun k play side =
       kind = k;
       set_play = play;
       side = side;
-      kicker = NoNumber;
+      kicker = None;
       kick_x = zero32;
       kick_y = zero32;
       other_touch = false;
@@ -157,14 +150,14 @@ begun k play side =
     }
 
 -- for the kicking side, none without one
-abbrev pub begun_for : MaybeSide → RestartKind → SetPlay → MaybeRestart
-begun_for NoSide k play = NoRestart
-begun_for (Of side) k play = InEffect (begun k play side)
+abbrev pub begun_for : Option Side → RestartKind → SetPlay → Option Restart
+begun_for None k play = None
+begun_for (Some side) k play = Some (begun k play side)
 
 -- a restart is in effect, and nobody has kicked
-abbrev pub is_unkicked : MaybeRestart → Bool
-is_unkicked NoRestart = false
-is_unkicked (InEffect r) = not (has_kicker r.kicker)
+abbrev pub is_unkicked : Option Restart → Bool
+is_unkicked None = false
+is_unkicked (Some r) = not (has_kicker r.kicker)
 
 -- the states in which a restart can be in effect
 abbrev pub has_restarts : State → Bool
@@ -176,33 +169,33 @@ has_restarts Finished = false
 has_restarts Timeout = false
 
 -- a set play has just begun
-abbrev pub after_begun : Bool → Game → MaybeRestart → MaybeRestart
+abbrev pub after_begun : Bool → Game → Option Restart → Option Restart
 after_begun now g r = cond now (begun_for g.kicking_side (kind_of g.set_play) g.set_play) r
 
 -- a set play has just ended: one that nobody has kicked has failed, which lifts all restrictions
-abbrev pub after_ended : Bool → Game → MaybeRestart → MaybeRestart
-after_ended now g r = cond (now && is_playing g.state && is_unkicked r) NoRestart r
+abbrev pub after_ended : Bool → Game → Option Restart → Option Restart
+after_ended now g r = cond (now && is_playing g.state && is_unkicked r) None r
 
 -- no restart is in effect outside Ready, Set and Playing
-abbrev pub after_state : Game → MaybeRestart → MaybeRestart
-after_state g r = cond (has_restarts g.state) r NoRestart
+abbrev pub after_state : Game → Option Restart → Option Restart
+after_state g r = cond (has_restarts g.state) r None
 
 -- Set has just begun: in a shoot-out with a penalty shot
-abbrev pub after_set_begun : Bool → Game → MaybeRestart → MaybeRestart
+abbrev pub after_set_begun : Bool → Game → Option Restart → Option Restart
 after_set_begun now g r = cond (now && is_shootout g.phase) (begun_for g.kicking_side kind.PenaltyShot NoSetPlay) r
 
 -- one after the other
-unfoldable pub observed_restart : Game → Bool → Bool → Bool → MaybeRestart → MaybeRestart
+unfoldable pub observed_restart : Game → Bool → Bool → Bool → Option Restart → Option Restart
 observed_restart g began ended set r = after_set_begun set g (after_state g (after_ended ended g (after_begun began g r)))
 
 -- ---- track_ball: whether the ball has clearly moved since the kick
-abbrev pub tracked_by : MaybeNumber → Restart → Ball → Restart
-tracked_by NoNumber r b = r
-tracked_by (Number k) r b =
-    restart_with r (Number k) r.kick_x r.kick_y r.other_touch r.kicker_touched_outside_center_circle r.kicker_touched_far_from_kick
+abbrev pub tracked_by : Option ℕ → Restart → Ball → Restart
+tracked_by None r b = r
+tracked_by (Some k) r b =
+    restart_with r (Some k) r.kick_x r.kick_y r.other_touch r.kicker_touched_outside_center_circle r.kicker_touched_far_from_kick
     (r.ball_moved_since_kick || lt ball_clearly_moved_distance (kick_distance r b))
 
 -- where one is in effect
-unfoldable pub tracked_restart : MaybeRestart → Ball → MaybeRestart
-tracked_restart NoRestart b = NoRestart
-tracked_restart (InEffect r) b = InEffect (tracked_by r.kicker r b)
+unfoldable pub tracked_restart : Option Restart → Ball → Option Restart
+tracked_restart None b = None
+tracked_restart (Some r) b = Some (tracked_by r.kicker r b)

@@ -2,36 +2,31 @@
 #![tactic(auto)]
 
 ghost use Rattle.std.specs.Prelude.{◌≡◌};
-ghost use Rattle.ball.specs.Ball.{is_penalty_shot};
 ghost use Rattle.restarts.specs.Restarts as Spec;
 
-use game::{
-    Ball, FieldDimensions, Game, MaybeNumber, MaybeRestart, MaybeSide, Restart, RestartKind,
-    SetPlay, Side, State,
-};
+use game::{Ball, FieldDimensions, Game, Restart, RestartKind, SetPlay, Side, State};
 
 // The distance the ball must have moved after a kick to have clearly moved.
 const BALL_CLEARLY_MOVED_DISTANCE: f32 = 0.1;
 
 // What a touch of the ball has called: the end of the penalty shot, or an indirect free kick and the side that takes it.
-#[derive(Clone, Copy)]
+#[derive(Clone, Copy, PartialEq, Eq)]
 pub enum TouchCall {
-    NoCall,
     PenaltyShotEnded,
     IndirectFreeKick(Side),
 }
 
-// The restart after a touch, and what is called for it.
+// The restart after a touch, and what is called for it, if anything.
 #[derive(Clone, Copy)]
 pub struct TouchedRestart {
-    pub restart: MaybeRestart,
-    pub call: TouchCall,
+    pub restart: Option<Restart>,
+    pub call: Option<TouchCall>,
 }
 
 // The record with another kicker, kick place and flags.
 fn restart_with(
     r: Restart,
-    kicker: MaybeNumber,
+    kicker: Option<u8>,
     x: f32,
     y: f32,
     other: bool,
@@ -70,7 +65,7 @@ fn kick_distance(r: Restart, ball: Ball) -> f32
 fn kick_taken(r: Restart, number: u8, field: FieldDimensions, ball: Ball) -> Restart
     ensures { result ≡ Spec.kick_taken r number field ball }
 {
-    let kicker = MaybeNumber::Number(number);
+    let kicker = Some(number);
     let distance = hypot::hypot(ball.x, ball.y);
     let outside = distance > field.center_circle_radius + field.ball_radius;
     restart_with(
@@ -139,13 +134,13 @@ fn after_touch(
 {
     let kicker = r.kicker;
     match kicker {
-        MaybeNumber::NoNumber => {
+        None => {
             if own {
                 return kick_taken(r, number, field, ball);
             }
             touched_by_other(r)
         }
-        MaybeNumber::Number(k) => {
+        Some(k) => {
             if own & (k == number) {
                 return touched_again(r, field, ball, players);
             }
@@ -159,40 +154,18 @@ fn after_touch(
 fn is_second_touch(r: Restart, own: bool, number: u8) -> bool
     ensures { result ≡ Spec.is_second_touch r own number }
 {
-    let kicker = r.kicker;
-    match kicker {
-        MaybeNumber::NoNumber => false,
-        MaybeNumber::Number(k) => {
-            own & (k == number) & (!r.other_touch & r.ball_moved_since_kick)
-        }
-    }
+    let is_kicker = r.kicker == Some(number);
+    own & is_kicker & (!r.other_touch & r.ball_moved_since_kick)
 }
 
 // Whether the kicker of a restart from this set play may not touch the ball twice.
 fn forbids_second_touch(set_play: SetPlay) -> bool
     ensures { result ≡ Spec.forbids_second_touch set_play }
 {
-    match set_play {
-        SetPlay::NoSetPlay => false,
-        SetPlay::KickOff => false,
-        SetPlay::DirectFreeKick => false,
-        SetPlay::IndirectFreeKick => false,
-        SetPlay::PenaltyKick => false,
-        SetPlay::ThrowIn => true,
-        SetPlay::GoalKick => true,
-        SetPlay::CornerKick => true,
-    }
-}
-
-fn is_penalty_shot(kind: RestartKind) -> bool
-    ensures { result ≡ is_penalty_shot kind }
-{
-    match kind {
-        RestartKind::KickOff => false,
-        RestartKind::Indirect => false,
-        RestartKind::Direct => false,
-        RestartKind::PenaltyShot => true,
-    }
+    matches!(
+        set_play,
+        SetPlay::ThrowIn | SetPlay::GoalKick | SetPlay::CornerKick
+    )
 }
 
 // Whether the opponents get an indirect free kick for the second touch.
@@ -215,19 +188,19 @@ fn after_second_touch(game: Game, next: Restart, side: Side, players: usize) -> 
     let kind = next.kind;
     let set_play = next.set_play;
     let doubled = is_double_touch(game, set_play, players);
-    if is_penalty_shot(kind) {
-        let restart = MaybeRestart::InEffect(next);
-        let call = TouchCall::PenaltyShotEnded;
+    if kind == RestartKind::PenaltyShot {
+        let restart = Some(next);
+        let call = Some(TouchCall::PenaltyShotEnded);
         return TouchedRestart { restart, call };
     }
     if doubled {
         let opponents = game::opponent(side);
-        let restart = MaybeRestart::NoRestart;
-        let call = TouchCall::IndirectFreeKick(opponents);
+        let restart = None;
+        let call = Some(TouchCall::IndirectFreeKick(opponents));
         return TouchedRestart { restart, call };
     }
-    let restart = MaybeRestart::InEffect(next);
-    let call = TouchCall::NoCall;
+    let restart = Some(next);
+    let call = None;
     TouchedRestart { restart, call }
 }
 
@@ -240,33 +213,24 @@ pub fn touched(
     side: Side,
     number: u8,
     players: usize,
-    restart: MaybeRestart,
+    restart: Option<Restart>,
 ) -> TouchedRestart
     ensures { result ≡ Spec.touched_restart game field ball side number players restart }
 {
-    match restart {
-        MaybeRestart::NoRestart => {
-            let none = MaybeRestart::NoRestart;
-            let call = TouchCall::NoCall;
-            TouchedRestart {
-                restart: none,
-                call,
-            }
-        }
-        MaybeRestart::InEffect(r) => {
-            let taker = r.side;
-            let own = game::same_side(side, taker);
-            let next = after_touch(r, own, number, field, ball, players);
-            if is_second_touch(r, own, number) {
-                return after_second_touch(game, next, side, players);
-            }
-            let kept = MaybeRestart::InEffect(next);
-            let call = TouchCall::NoCall;
-            TouchedRestart {
-                restart: kept,
-                call,
-            }
-        }
+    let call = None;
+    let Some(r) = restart else {
+        return TouchedRestart { restart, call };
+    };
+    let taker = r.side;
+    let own = side == taker;
+    let next = after_touch(r, own, number, field, ball, players);
+    if is_second_touch(r, own, number) {
+        return after_second_touch(game, next, side, players);
+    }
+    let kept = Some(next);
+    TouchedRestart {
+        restart: kept,
+        call,
     }
 }
 
@@ -287,62 +251,40 @@ fn kind_of(set_play: SetPlay) -> RestartKind
 }
 
 // A restart that begins for the kicking side, none without one. Nobody has touched the ball.
-fn begun_for(kicking_side: MaybeSide, kind: RestartKind, set_play: SetPlay) -> MaybeRestart
+fn begun_for(kicking_side: Option<Side>, kind: RestartKind, set_play: SetPlay) -> Option<Restart>
     ensures { result ≡ Spec.begun_for kicking_side kind set_play }
 {
-    match kicking_side {
-        MaybeSide::NoSide => MaybeRestart::NoRestart,
-        MaybeSide::Of(side) => {
-            let kicker = MaybeNumber::NoNumber;
-            let begun = Restart {
-                kind,
-                set_play,
-                side,
-                kicker,
-                kick_x: 0.0,
-                kick_y: 0.0,
-                other_touch: false,
-                kicker_touched_outside_center_circle: false,
-                kicker_touched_far_from_kick: false,
-                ball_moved_since_kick: false,
-            };
-            MaybeRestart::InEffect(begun)
-        }
-    }
+    let kicker = None;
+    kicking_side.map(|side| Restart {
+        kind,
+        set_play,
+        side,
+        kicker,
+        kick_x: 0.0,
+        kick_y: 0.0,
+        other_touch: false,
+        kicker_touched_outside_center_circle: false,
+        kicker_touched_far_from_kick: false,
+        ball_moved_since_kick: false,
+    })
 }
 
 // Whether a restart is in effect and nobody has kicked.
-fn is_unkicked(restart: MaybeRestart) -> bool
+fn is_unkicked(restart: Option<Restart>) -> bool
     ensures { result ≡ Spec.is_unkicked restart }
 {
-    match restart {
-        MaybeRestart::NoRestart => false,
-        MaybeRestart::InEffect(r) => {
-            let kicker = r.kicker;
-            match kicker {
-                MaybeNumber::NoNumber => true,
-                MaybeNumber::Number(_) => false,
-            }
-        }
-    }
+    restart.is_some_and(|r| r.kicker.is_none())
 }
 
 // Whether a restart can be in effect in a state.
 fn has_restarts(state: State) -> bool
     ensures { result ≡ Spec.has_restarts state }
 {
-    match state {
-        State::Initial => false,
-        State::Ready => true,
-        State::Set => true,
-        State::Playing => true,
-        State::Finished => false,
-        State::Timeout => false,
-    }
+    matches!(state, State::Ready | State::Set | State::Playing)
 }
 
 // Where a set play has just begun.
-fn after_begun(begun: bool, game: Game, restart: MaybeRestart) -> MaybeRestart
+fn after_begun(begun: bool, game: Game, restart: Option<Restart>) -> Option<Restart>
     ensures { result ≡ Spec.after_begun begun game restart }
 {
     if begun {
@@ -355,14 +297,14 @@ fn after_begun(begun: bool, game: Game, restart: MaybeRestart) -> MaybeRestart
 }
 
 // Where a set play has just ended: one that nobody has kicked has failed, which lifts all restrictions.
-fn after_ended(ended: bool, game: Game, restart: MaybeRestart) -> MaybeRestart
+fn after_ended(ended: bool, game: Game, restart: Option<Restart>) -> Option<Restart>
     ensures { result ≡ Spec.after_ended ended game restart }
 {
     let state = game.state;
     let playing = game::is_playing(state);
     let unkicked = is_unkicked(restart);
     if ended & playing & unkicked {
-        return MaybeRestart::NoRestart;
+        return None;
     }
     restart
 }
@@ -374,8 +316,8 @@ pub fn observed(
     begun: bool,
     ended: bool,
     set_begun: bool,
-    restart: MaybeRestart,
-) -> MaybeRestart
+    restart: Option<Restart>,
+) -> Option<Restart>
     ensures { result ≡ Spec.observed_restart game begun ended set_begun restart }
 {
     let phase = game.phase;
@@ -390,36 +332,32 @@ pub fn observed(
     if has_restarts(state) {
         return second;
     }
-    MaybeRestart::NoRestart
+    None
 }
 
 // What the way of the ball since the kick makes of the restart, as track_ball.
 #[tactic(auto, unfolding(crate::specs::Restarts::tracked_restart))]
-pub fn tracked(restart: MaybeRestart, ball: Ball) -> MaybeRestart
+pub fn tracked(restart: Option<Restart>, ball: Ball) -> Option<Restart>
     ensures { result ≡ Spec.tracked_restart restart ball }
 {
-    match restart {
-        MaybeRestart::NoRestart => MaybeRestart::NoRestart,
-        MaybeRestart::InEffect(r) => {
-            let kicker = r.kicker;
-            match kicker {
-                MaybeNumber::NoNumber => restart,
-                MaybeNumber::Number(_) => {
-                    let distance = kick_distance(r, ball);
-                    let moved = distance > BALL_CLEARLY_MOVED_DISTANCE;
-                    let next = restart_with(
-                        r,
-                        kicker,
-                        r.kick_x,
-                        r.kick_y,
-                        r.other_touch,
-                        r.kicker_touched_outside_center_circle,
-                        r.kicker_touched_far_from_kick,
-                        r.ball_moved_since_kick | moved,
-                    );
-                    MaybeRestart::InEffect(next)
-                }
-            }
-        }
+    let Some(r) = restart else {
+        return None;
+    };
+    let kicker = r.kicker;
+    if kicker.is_none() {
+        return restart;
     }
+    let distance = kick_distance(r, ball);
+    let moved = distance > BALL_CLEARLY_MOVED_DISTANCE;
+    let next = restart_with(
+        r,
+        kicker,
+        r.kick_x,
+        r.kick_y,
+        r.other_touch,
+        r.kicker_touched_outside_center_circle,
+        r.kicker_touched_far_from_kick,
+        r.ball_moved_since_kick | moved,
+    );
+    Some(next)
 }

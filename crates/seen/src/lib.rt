@@ -4,12 +4,12 @@
 ghost use Rattle.std.specs.Prelude.{◌≡◌};
 ghost use Rattle.seen.specs.Seen as Spec;
 
-use game::{FieldDimensions, Game, PlayerMargins, Side, Team};
+use game::{FieldDimensions, Game, Margins, Side, Team};
 
 // Its players' margins, and how many of them are on the field.
 #[derive(Clone, Copy)]
 pub struct Seen {
-    pub margins: [PlayerMargins; 20],
+    pub margins: [Option<Margins>; 20],
     pub on_field: usize,
 }
 

@@ -13,7 +13,6 @@ use Rattle.game.specs.Codes.{side_code, positioning_code}
 use Rattle.game.specs.Players.{number_at}
 use Rattle.game.specs.declared.Decision.{Decision}
 use Rattle.game.specs.declared.Positioning.{Positioning}
-use Rattle.game.specs.declared.PlayerVerdict.{PlayerVerdict}
 use Rattle.game.specs.declared.Side.{Side}
 use Rattle.game.specs.declared.Side.TheVariants.{Home, Away}
 use Rattle.decision.specs.Decision.{decision_of}
@@ -74,7 +73,7 @@ same_code Home = refl
 same_code Away = refl
 
 -- of the player's own side: as its verdict has a number above 0
-own_side : (side : Side) (vs : List PlayerVerdict) (i : ℕ) → i < 20 → any_for side (i + 1) (verdict_rows side vs) ≡ ltb 0 (verdict_code vs i)
+own_side : (side : Side) (vs : List Positioning) (i : ℕ) → i < 20 → any_for side (i + 1) (verdict_rows side vs) ≡ ltb 0 (verdict_code vs i)
 unfolding verdict_rows
 own_side side vs i h =
     any_at side (i + 1) 20 i (verdict_row (side_code side) vs) h (λ j n. any_one side side (i + 1) (j + 1) (verdict_code vs j) (ltb 0 (verdict_code vs j)) ∙ miss (ltb 0 (verdict_code vs j)) j n)
@@ -91,7 +90,7 @@ own_side side vs i h =
     hit false = refl
 
 -- of the other side: none
-other_side : (side other : Side) (vs : List PlayerVerdict) (n : ℕ) → eqb (side_code other) (side_code side) ≡ false → any_for side n (verdict_rows other vs) ≡ false
+other_side : (side other : Side) (vs : List Positioning) (n : ℕ) → eqb (side_code other) (side_code side) ≡ false → any_for side n (verdict_rows other vs) ≡ false
 unfolding verdict_rows
 other_side side other vs n e =
     any_none side n 20 (verdict_row (side_code other) vs)

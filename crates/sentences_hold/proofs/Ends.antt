@@ -10,7 +10,6 @@ use Rattle.lists.specs.Put.{fronted}
 use Rattle.lists.specs.Refusals.{Requirement, first_refusal}
 use Rattle.lists.proofs.Gather.{flat_same}
 use Rattle.game.specs.Players.{player_numbered, team_of, number_at}
-use Rattle.game.specs.declared.MaybeMargins.{MaybeMargins}
 use Rattle.game.specs.declared.Player.{Player}
 use Rattle.game.specs.declared.Side.{Side}
 use Rattle.game.specs.declared.Side.TheVariants.{Home, Away}
@@ -27,11 +26,13 @@ use Rattle.decision.proofs.Sides.{team_of_changed}
 use Rattle.sheet.specs.Sheet.{answered}
 use Rattle.coach.specs.Coach.{condition_for, line_for, sentence_of, numbered, room_for, asked_requirements, sentence_answer, sentence_after, ended, side_sentences, sentences_of, sentences_answer, sentences_after}
 use Rattle.sentences_hold.specs.Claims.{BothEndsClaim, CoachHalfTurnClaim}
+use Rattle.std.specs.Prelude.{Option}
+use Rattle.game.specs.declared.Margins.{Margins}
 
 module _ (a b : Bool) (s : Situation) (xs ys : List Float) where
   -- ---- the lines
-  margins_same : (side : Side) (q : Player) → (player_margins (changed_player a b q) s.field (side_to_sign side (changed_game a s.game).sides)).margins ≡ (player_margins q s.field (side_to_sign side s.game.sides)).margins
-  margins_same side q = ap (λ (z : Float). (player_margins (changed_player a b q) s.field z).margins) (sign_changed a side s.game.sides) ∙ seen_margins_changed a b q.pose s.field (side_to_sign side s.game.sides)
+  margins_same : (side : Side) (q : Player) → (player_margins (changed_player a b q) s.field (side_to_sign side (changed_game a s.game).sides)) ≡ (player_margins q s.field (side_to_sign side s.game.sides))
+  margins_same side q = ap (λ (z : Float). (player_margins (changed_player a b q) s.field z)) (sign_changed a side s.game.sides) ∙ seen_margins_changed a b q.pose s.field (side_to_sign side s.game.sides)
 
   condition_same : (side : Side) (n : ℕ) → condition_for (changed a b s) side n ≡ condition_for s side n
   unfolding condition_for
@@ -40,10 +41,10 @@ module _ (a b : Bool) (s : Situation) (xs ys : List Float) where
       let o = changed_ball a b s.ball in
       let sign = side_to_sign side g.sides in
       let team = team_of s side in
-      ap (λ (t : Team). condition_of g s.field o side t.goalkeeper n (player_numbered t n) (player_margins (player_numbered t n) s.field sign).margins) (team_of_changed a b s side)
-      ∙ ap (λ (q : Player). condition_of g s.field o side team.goalkeeper n q (player_margins q s.field sign).margins) (numbered_changed a b team n)
-      ∙ ap (λ (m : MaybeMargins). condition_of g s.field o side team.goalkeeper n (changed_player a b (player_numbered team n)) m) (margins_same side (player_numbered team n))
-      ∙ condition_changed a b s.game s.field s.ball side team.goalkeeper n (player_numbered team n) (player_margins (player_numbered team n) s.field (side_to_sign side s.game.sides)).margins
+      ap (λ (t : Team). condition_of g s.field o side t.goalkeeper n (player_numbered t n) (player_margins (player_numbered t n) s.field sign)) (team_of_changed a b s side)
+      ∙ ap (λ (q : Player). condition_of g s.field o side team.goalkeeper n q (player_margins q s.field sign)) (numbered_changed a b team n)
+      ∙ ap (λ (m : Option Margins). condition_of g s.field o side team.goalkeeper n (changed_player a b (player_numbered team n)) m) (margins_same side (player_numbered team n))
+      ∙ condition_changed a b s.game s.field s.ball side team.goalkeeper n (player_numbered team n) (player_margins (player_numbered team n) s.field (side_to_sign side s.game.sides))
 
   sentence_same : (side : Side) (n : ℕ) → sentence_of (changed a b s) side n ≡ sentence_of s side n
   unfolding sentence_of

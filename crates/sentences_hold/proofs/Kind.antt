@@ -11,17 +11,17 @@ use Rattle.lists.proofs.Gather.{flat_same}
 use Rattle.game.specs.declared.BallJudgment.{BallJudgment}
 use Rattle.game.specs.declared.Decision.{Decision}
 use Rattle.game.specs.declared.KickingPlayer.{KickingPlayer}
-use Rattle.game.specs.declared.KickingPlayer.TheVariants.{NoKicker, Kicker}
 use Rattle.game.specs.declared.Placement.{Placement}
 use Rattle.game.specs.declared.Placement.TheVariants.{NoPlace, BallAt, PlayerAt}
 use Rattle.game.specs.declared.PlayerList.{PlayerList}
-use Rattle.game.specs.declared.PlayerVerdict.{PlayerVerdict}
 use Rattle.game.specs.declared.Side.{Side}
 use Rattle.game.specs.declared.Side.TheVariants.{Home, Away}
 use Rattle.lines.specs.declared.Row.{Row}
 use Rattle.sheet.specs.Rows.{row, verdict_code, verdict_row, verdict_rows, numbers_of, list_rows, from_one, none, kicker_rows, ball_rows, place_rows, rows_of, sheet_rows}
 use Rattle.game.specs.Codes.{side_code, judgment_code, judgment_side}
 use Rattle.sentences_hold.specs.Claims.{kept_if, of_kind, verdict_lines}
+use Rattle.game.specs.declared.Positioning.{Positioning}
+use Rattle.std.specs.Prelude.{Option, None, Some}
 
 -- ---- lists and their lines of kind 1
 kind_append : (k l : List Row) → of_kind 1 (k ++ l) ≡ of_kind 1 k ++ of_kind 1 l
@@ -46,15 +46,15 @@ kind_table zero f e = refl
 kind_table (suc n) f e = ap (λ (b : Bool). kept_if b (f 0) (of_kind 1 (table n (λ k. f (suc k))))) (e 0) ∙ kind_table n (λ k. f (suc k)) (λ i. e (suc i))
 
 -- ---- the blocks of a sheet
-verdicts_kind : (side : Side) (vs : List PlayerVerdict) → of_kind 1 (verdict_rows side vs) ≡ verdict_rows side vs
+verdicts_kind : (side : Side) (vs : List Positioning) → of_kind 1 (verdict_rows side vs) ≡ verdict_rows side vs
 unfolding verdict_rows
 verdicts_kind side vs =
     kind_flat 20 (verdict_row (side_code side) vs)
     ∙ flat_same 20 (λ i. of_kind 1 (verdict_row (side_code side) vs i)) (verdict_row (side_code side) vs) (λ i h. kind_only (ltb 0 (verdict_code vs i)) (side_code side) (i + 1) (verdict_code vs i))
 
-kicker_kind : (k : KickingPlayer) → of_kind 1 (kicker_rows k) ≡ []
-kicker_kind NoKicker = refl
-kicker_kind (Kicker side n) = refl
+kicker_kind : (k : Option KickingPlayer) → of_kind 1 (kicker_rows k) ≡ []
+kicker_kind None = refl
+kicker_kind (Some k) = refl
 
 only_kind : (b : Bool) (side n : ℕ) → of_kind 1 (only_if b (row 6 side n 0)) ≡ []
 only_kind true side n = refl

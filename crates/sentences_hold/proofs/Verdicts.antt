@@ -11,7 +11,6 @@ use lib.ListN.{length, get_or}
 use Rattle.lists.proofs.Table.{table_at}
 use Rattle.game.specs.Codes.{positioning_code}
 use Rattle.game.specs.Players.{team_of, number_at}
-use Rattle.game.specs.declared.PlayerVerdict.{PlayerVerdict}
 use Rattle.game.specs.declared.Positioning.TheVariants.{Legal}
 use Rattle.game.specs.declared.Side.{Side}
 use Rattle.game.specs.declared.Side.TheVariants.{Home, Away}
@@ -27,6 +26,7 @@ use Rattle.sentences.proofs.Claims.{never_empty}
 use Rattle.coach.specs.Coach.{condition_for, line_for}
 use Rattle.coach.proofs.Lines.{condition_told}
 use Rattle.sentences_hold.specs.Claims.{side_in, verdict_in, verdict_line}
+use Rattle.game.specs.declared.Positioning.{Positioning}
 
 module _ (s : Situation) (xs ys : List Float) (side : Side) (i : ℕ) (h : i < 20) where
   side_told : side_in (decision_of s xs ys) side ≡ side_decision s side
@@ -40,8 +40,8 @@ module _ (s : Situation) (xs ys : List Float) (side : Side) (i : ℕ) (h : i < 2
   pub verdict_told : verdict_in (decision_of s xs ys) side i ≡ verdict_of (condition_for s side (number_at i))
   unfolding side_decision team_decision team_verdicts side_margins team_margins is_illegally_positioned
   verdict_told =
-      ap (λ (d : SideDecision). (get_or d.verdicts i (record { verdict = Legal })).verdict) side_told
-      ∙ ap (λ (v : PlayerVerdict). v.verdict) (table_at 20 (verdict_at s.game s.field s.ball side (team_of s side) (side_margins s side)) (record { verdict = Legal }) i h)
+      ap (λ (d : SideDecision). get_or d.verdicts i Legal) side_told
+      ∙ (table_at 20 (verdict_at s.game s.field s.ball side (team_of s side) (side_margins s side)) Legal i h)
       ∙ ap verdict_of (sym (condition_told s side i h))
 
 -- ---- the line of a condition

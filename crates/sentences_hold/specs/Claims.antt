@@ -25,7 +25,7 @@ side_in d Away = d.away
 
 -- the verdict of a decision on the player of a side at the place i
 abbrev pub verdict_in : Decision → Side → ℕ → Positioning
-verdict_in d side i = (get_or (side_in d side).verdicts i (record { verdict = Legal })).verdict
+verdict_in d side i = get_or (side_in d side).verdicts i Legal
 
 -- the line of a verdict and a condition, empty for Legal
 abbrev pub verdict_line : Side → ℕ → Positioning → Condition → List ℕ

@@ -16,19 +16,19 @@ use Rattle.game.specs.Codes.{side_code, judgment_code, judgment_side}
 use Rattle.game.specs.declared.Decision.{Decision}
 use Rattle.game.specs.declared.SideDecision.{SideDecision}
 use Rattle.game.specs.declared.KickingPlayer.{KickingPlayer}
-use Rattle.game.specs.declared.KickingPlayer.TheVariants.{NoKicker, Kicker}
-use Rattle.game.specs.declared.PlayerVerdict.{PlayerVerdict}
 use Rattle.sheet.specs.Rows.{row, verdict_code, verdict_row, verdict_rows, numbers_of, list_rows, from_one, none, kicker_rows, ball_rows, place_rows, rows_of}
 use Rattle.sheet.specs.Sheet.{text_of}
 use Rattle.sheet.proofs.Answers.{text_long}
 use Rattle.sheet.proofs.Written.{place_few}
+use Rattle.game.specs.declared.Positioning.{Positioning}
+use Rattle.std.specs.Prelude.{Option, None, Some}
 
 -- ---- the lines of each kind
 one_at_most : {A : Type 0} (b : Bool) (x : A) → length (only_if b x) ≤ 1
 one_at_most true x = omega arith
 one_at_most false x = omega arith
 
-verdicts_few : (side : Side) (v : List PlayerVerdict) → length (verdict_rows side v) ≤ 20
+verdicts_few : (side : Side) (v : List Positioning) → length (verdict_rows side v) ≤ 20
 unfolding verdict_rows flat_to
 verdicts_few side v = go 20
   where
@@ -40,9 +40,9 @@ list_few : (kind : ℕ) (side : Side) (value : ℕ → ℕ) (l : PlayerList) →
 unfolding list_rows
 list_few kind side value l h = omega (arith, length_table (length (numbers_of l)) (λ k. row kind (side_code side) (get_or (numbers_of l) k 0) (value k)), length-take l.count l.numbers, h)
 
-kicker_few : (k : KickingPlayer) → length (kicker_rows k) ≤ 1
-kicker_few NoKicker = omega arith
-kicker_few (Kicker side n) = omega arith
+kicker_few : (k : Option KickingPlayer) → length (kicker_rows k) ≤ 1
+kicker_few None = omega arith
+kicker_few (Some k) = omega arith
 
 ball_few : (j : BallJudgment) → length (ball_rows j) ≤ 1
 unfolding ball_rows

@@ -7,13 +7,14 @@ use native.Mathlib.Omega.{arith}
 use borrow.Author.Tests.{eq-eqb, ne_eqb, leb-true, leb-false, lt-ltb, le-ltb, ltb-false}
 use lib.Dec.{eqb, leb, ltb}
 use lib.ListN.{length}
+use Rattle.std.specs.Prelude.{Result, Ok}
 use Rattle.lists.specs.Put.{fronted, fronted_into}
 use Rattle.lists.specs.Refusals.{Requirement, first_refusal, all_numbered}
 use Rattle.lists.proofs.Bools.{by_test}
 use Rattle.lists.proofs.Refusals.{refusal_append}
+use Rattle.refusal.specs.Refusal.{refused}
+use Rattle.refusal.specs.declared.Refusal.{Refusal}
 use Rattle.sheet.specs.Sheet.{bytes_in, answered}
-use Rattle.sheet.specs.declared.text.SheetAnswer.{SheetAnswer}
-use Rattle.sheet.specs.declared.text.SheetAnswer.TheVariants.{Refused, Written}
 
 module _ {X : Type 0} where
   -- one test for the other
@@ -36,7 +37,7 @@ module _ (cs : List Requirement) (k : ℕ) (text : List ℕ) where
   refused_at lent = first_refusal (cs ++ (record { holds = leb (length text) lent; number = k } ∷ []))
 
   -- what is answered
-  abbrev pub call_answer : ℕ → SheetAnswer
+  abbrev pub call_answer : ℕ → Result ℕ Refusal
   call_answer lent = answered (refused_at lent) (length text)
 
   -- the lent bytes after it
@@ -52,48 +53,48 @@ module _ (cs : List Requirement) (k : ℕ) (text : List ℕ) (numbered : all_num
       ∙ ap (λ (x : X). cond (eqb (first_refusal cs) 0) x (refused (first_refusal cs))) (room_tested (length text) lent written (refused k))
 
   -- ---- by whether cs refuses, and by the test of the lent bytes
-  pub answer_by : (lent : ℕ) → call_answer cs k text lent ≡ cond (eqb (first_refusal cs) 0) (cond (ltb lent (length text)) (Refused k) (Written (length text))) (Refused (first_refusal cs))
-  answer_by lent = chosen (Written (length text)) Refused lent
+  pub answer_by : (lent : ℕ) → call_answer cs k text lent ≡ cond (eqb (first_refusal cs) 0) (cond (ltb lent (length text)) (refused k) (Ok (length text))) (refused (first_refusal cs))
+  answer_by lent = chosen (Ok (length text)) refused lent
 
   pub after_by : (s : List ℕ) → call_after cs k text s ≡ cond (eqb (first_refusal cs) 0) (cond (ltb (length s) (length text)) s (fronted text s)) s
   after_by s = chosen (fronted text s) (λ n. s) (length s)
 
   -- the same of the text alone
-  text_by : (lent : ℕ) → call_answer [] k text lent ≡ cond (ltb lent (length text)) (Refused k) (Written (length text))
-  text_by lent = by_first (Written (length text)) Refused 0 k true (leb (length text) lent) refl some ∙ room_tested (length text) lent (Written (length text)) (Refused k)
+  text_by : (lent : ℕ) → call_answer [] k text lent ≡ cond (ltb lent (length text)) (refused k) (Ok (length text))
+  text_by lent = by_first (Ok (length text)) refused 0 k true (leb (length text) lent) refl some ∙ room_tested (length text) lent (Ok (length text)) (refused k)
 
-  pub text_short : (lent : ℕ) → lent < length text → Refused k ≡ call_answer [] k text lent
-  text_short lent h = sym (text_by lent ∙ ap (λ (b : Bool). cond b (Refused k) (Written (length text))) (lt-ltb _ _ h))
+  pub text_short : (lent : ℕ) → lent < length text → refused k ≡ call_answer [] k text lent
+  text_short lent h = sym (text_by lent ∙ ap (λ (b : Bool). cond b (refused k) (Ok (length text))) (lt-ltb _ _ h))
 
-  pub text_fits : (lent : ℕ) → length text ≤ lent → Written (length text) ≡ call_answer [] k text lent
-  text_fits lent h = sym (text_by lent ∙ ap (λ (b : Bool). cond b (Refused k) (Written (length text))) (le-ltb _ _ h))
+  pub text_fits : (lent : ℕ) → length text ≤ lent → Ok (length text) ≡ call_answer [] k text lent
+  text_fits lent h = sym (text_by lent ∙ ap (λ (b : Bool). cond b (refused k) (Ok (length text))) (le-ltb _ _ h))
 
   -- ---- what the code leaves
   -- cs refused
-  pub call_refused : (n : ℕ) (s : List ℕ) → n ≡ first_refusal cs → (n ≡ 0 → ⊥) → (Refused n ≡ call_answer cs k text (length s)) × (s ≡ call_after cs k text s)
+  pub call_refused : (n : ℕ) (s : List ℕ) → n ≡ first_refusal cs → (n ≡ 0 → ⊥) → (refused n ≡ call_answer cs k text (length s)) × (s ≡ call_after cs k text s)
   call_refused n s told h =
       let no : eqb (first_refusal cs) 0 ≡ false = ne_eqb _ _ (λ e. h (told ∙ e)) in (
-        ap Refused told ∙ sym (answer_by (length s) ∙ ap (λ (b : Bool). cond b (cond (ltb (length s) (length text)) (Refused k) (Written (length text))) (Refused (first_refusal cs))) no),
+        ap refused told ∙ sym (answer_by (length s) ∙ ap (λ (b : Bool). cond b (cond (ltb (length s) (length text)) (refused k) (Ok (length text))) (refused (first_refusal cs))) no),
         sym (after_by s ∙ ap (λ (b : Bool). cond b (cond (ltb (length s) (length text)) s (fronted text s)) s) no),
       )
 
   module _ (accepted : first_refusal cs ≡ 0) where
-    answer_room : (lent : ℕ) → call_answer cs k text lent ≡ cond (ltb lent (length text)) (Refused k) (Written (length text))
-    answer_room lent = answer_by lent ∙ ap (λ (b : Bool). cond b (cond (ltb lent (length text)) (Refused k) (Written (length text))) (Refused (first_refusal cs))) (eq-eqb _ _ accepted)
+    answer_room : (lent : ℕ) → call_answer cs k text lent ≡ cond (ltb lent (length text)) (refused k) (Ok (length text))
+    answer_room lent = answer_by lent ∙ ap (λ (b : Bool). cond b (cond (ltb lent (length text)) (refused k) (Ok (length text))) (refused (first_refusal cs))) (eq-eqb _ _ accepted)
 
     after_room : (s : List ℕ) → call_after cs k text s ≡ cond (ltb (length s) (length text)) s (fronted text s)
     after_room s = after_by s ∙ ap (λ (b : Bool). cond b (cond (ltb (length s) (length text)) s (fronted text s)) s) (eq-eqb _ _ accepted)
 
     -- a writer of the text alone, which refuses with k where there is no room, answered and left this
-    pub call_accepted : (r : SheetAnswer) (s next : List ℕ) → r ≡ call_answer [] k text (length s) → next ≡ fronted_into text s → (r ≡ call_answer cs k text (length s)) × (next ≡ call_after cs k text s)
+    pub call_accepted : (r : Result ℕ Refusal) (s next : List ℕ) → r ≡ call_answer [] k text (length s) → next ≡ fronted_into text s → (r ≡ call_answer cs k text (length s)) × (next ≡ call_after cs k text s)
     unfolding fronted_into
     call_accepted r s next e p = (e ∙ text_by (length s) ∙ sym (answer_room (length s)), p ∙ sym (after_room s))
 
   -- no more bytes are written than were lent
   pub call_room : (lent : ℕ) → bytes_in (call_answer cs k text lent) ≤ lent
-  call_room lent = subst (λ (a : SheetAnswer). bytes_in a ≤ lent) (sym (answer_by lent)) (go (eqb (first_refusal cs) 0) (ltb lent (length text)) refl)
+  call_room lent = subst (λ (a : Result ℕ Refusal). bytes_in a ≤ lent) (sym (answer_by lent)) (go (eqb (first_refusal cs) 0) (ltb lent (length text)) refl)
     where
-      go : (b f : Bool) → ltb lent (length text) ≡ f → bytes_in (cond b (cond f (Refused k) (Written (length text))) (Refused (first_refusal cs))) ≤ lent
+      go : (b f : Bool) → ltb lent (length text) ≡ f → bytes_in (cond b (cond f (refused k) (Ok (length text))) (refused (first_refusal cs))) ≤ lent
       go true true e = omega arith
       go true false e = ltb-false _ _ e
       go false f e = omega arith

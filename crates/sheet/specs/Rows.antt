@@ -1,6 +1,6 @@
 -- The lines that a decision gives, in document 01's order: kind by kind, and inside a kind in the order of the players, but for the excess, which has the list's
 -- order. Definitions only.
-use Rattle.std.specs.Prelude.{cond, List, [], ◌∷◌, ◌++◌, ℕ, suc, ◌+◌, ltb, Float, get_or, length, take}
+use Rattle.std.specs.Prelude.{cond, List, [], ◌∷◌, ◌++◌, ℕ, suc, ◌+◌, ltb, Float, get_or, length, take, Option, None, Some}
 use Rattle.std.specs.Float.{binary32}
 use Rattle.std.specs.Float.Ieee.{eq, to_bits}
 use Rattle.lists.specs.Gather.{flat_to, only_if}
@@ -15,9 +15,8 @@ use Rattle.game.specs.declared.Placement.{Placement}
 use Rattle.game.specs.Codes.{positioning_code, side_code, judgment_code, judgment_side, placement_side, placement_number, placement_values}
 use Rattle.game.specs.declared.Decision.{Decision}
 use Rattle.game.specs.declared.KickingPlayer.{KickingPlayer}
-use Rattle.game.specs.declared.KickingPlayer.TheVariants.{NoKicker, Kicker}
-use Rattle.game.specs.declared.PlayerVerdict.{PlayerVerdict}
 use Rattle.lines.specs.declared.Row.{Row}
+use Rattle.game.specs.declared.Positioning.{Positioning}
 
 -- a line's kind, side, number and value
 abbrev pub row : ℕ → ℕ → ℕ → ℕ → Row
@@ -25,15 +24,15 @@ row kind side number value = record { kind = kind; side = side; number = number;
 
 -- ---- 1: verdicts other than Legal
 -- the number of the verdict on the player at the place i
-abbrev pub verdict_code : List PlayerVerdict → ℕ → ℕ
-verdict_code verdicts i = positioning_code (get_or verdicts i (record { verdict = Legal })).verdict
+abbrev pub verdict_code : List Positioning → ℕ → ℕ
+verdict_code verdicts i = positioning_code (get_or verdicts i Legal)
 
 -- the player's line, unless its verdict is Legal
-abbrev pub verdict_row : ℕ → List PlayerVerdict → ℕ → List Row
+abbrev pub verdict_row : ℕ → List Positioning → ℕ → List Row
 verdict_row side verdicts i = only_if (ltb 0 (verdict_code verdicts i)) (row 1 side (i + 1) (verdict_code verdicts i))
 
 -- those of a side, in the order of its players
-unfoldable pub verdict_rows : Side → List PlayerVerdict → List Row
+unfoldable pub verdict_rows : Side → List Positioning → List Row
 verdict_rows side verdicts = flat_to 20 (verdict_row (side_code side) verdicts)
 
 -- ---- lists of players
@@ -54,9 +53,9 @@ abbrev pub none : ℕ → ℕ
 none k = 0
 
 -- ---- 3: the kicking player
-abbrev pub kicker_rows : KickingPlayer → List Row
-kicker_rows NoKicker = []
-kicker_rows (Kicker side n) = row 3 (side_code side) n 0 ∷ []
+abbrev pub kicker_rows : Option KickingPlayer → List Row
+kicker_rows None = []
+kicker_rows (Some k) = row 3 (side_code k.side) k.number 0 ∷ []
 
 -- ---- 6: the ball judgment
 unfoldable pub ball_rows : BallJudgment → List Row

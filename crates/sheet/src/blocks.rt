@@ -6,10 +6,7 @@ ghost use Rattle.game.specs.Codes.{positioning_code, judgment_code, judgment_sid
 ghost use Rattle.sheet.specs.Rows as Spec;
 ghost use Rattle.sheet.specs.Blocks.{Holds, HoldsList, Few, all_rows, place_line_rows};
 
-use game::{
-    BallJudgment, Decision, KickingPlayer, MIN, Placement, PlayerList, PlayerVerdict, Positioning,
-    Side,
-};
+use game::{BallJudgment, Decision, KickingPlayer, MIN, Placement, PlayerList, Positioning, Side};
 
 // The first `count` of the numbers and values, each a line of this kind and side.
 #[derive(Clone, Copy)]
@@ -40,12 +37,7 @@ const RANKS: [u8; 20] = [
 fn positioning_code(verdict: Positioning) -> u8
     ensures { result ≡ positioning_code verdict }
 {
-    match verdict {
-        Positioning::Legal => 0,
-        Positioning::Illegal => 1,
-        Positioning::IllegalUnlessKicker => 2,
-        Positioning::InAvoidanceRegion => 3,
-    }
+    verdict as u8
 }
 
 // One more, or not.
@@ -73,22 +65,18 @@ fn block_if(wanted: bool, kind: u32, side: u32, number: u8) -> Block
 
 // The lines of the players whose verdict is not Legal. A line that is not wanted is written over by the next one.
 #[tactic(auto, unfolding(lists::specs::Gather::flat_to, crate::specs::Rows::verdict_rows, crate::specs::Blocks::block_rows))]
-fn verdict_block(side: Side, verdicts: [PlayerVerdict; 20]) -> Block
+fn verdict_block(side: Side, verdicts: [Positioning; 20]) -> Block
     ensures { Holds result (Spec.verdict_rows side verdicts) }
 {
     let code = game::side_code(side);
     let mut numbers = [0u8; 20];
     let mut values = [0u8; 20];
     let mut n: usize = 0;
-    let mut i: usize = 0;
-    while i < 20 {
-        let v = verdicts[i];
-        let positioning = v.verdict;
-        let value = positioning_code(positioning);
+    for i in 0..20 {
+        let value = positioning_code(verdicts[i]);
         numbers[n] = i as u8 + MIN;
         values[n] = value;
         n = count_if(0 < value, n);
-        i += 1;
     }
     Block {
         kind: 1,
@@ -117,15 +105,12 @@ fn list_block(kind: u32, side: Side, list: PlayerList, values: [u8; 20]) -> Bloc
 }
 
 // The kicking player's line.
-fn kicker_block(kicker: KickingPlayer) -> Block
+fn kicker_block(kicker: Option<KickingPlayer>) -> Block
     ensures { Holds result (Spec.kicker_rows kicker) }
 {
     match kicker {
-        KickingPlayer::NoKicker => block_if(false, 3, 0, 0),
-        KickingPlayer::Kicker(side, number) => {
-            let code = game::side_code(side);
-            block_if(true, 3, code, number)
-        }
+        None => block_if(false, 3, 0, 0),
+        Some(k) => block_if(true, 3, game::side_code(k.side), k.number),
     }
 }
 

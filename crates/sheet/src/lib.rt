@@ -4,4 +4,4 @@
 mod blocks;
 mod text;
 
-pub use text::{SheetAnswer, lines_following, write_decision};
+pub use text::{lines_following, write_decision};

@@ -9,13 +9,7 @@ ghost use Rattle.sheet.specs.Sheet as Spec;
 use super::blocks::{Block, PlaceLines};
 use game::Decision;
 use lines::Row;
-
-// What is answered: the number of a refusal, or how many bytes were written.
-#[derive(Clone, Copy)]
-pub enum SheetAnswer {
-    Refused(u8),
-    Written(usize),
-}
+use refusal::Refusal;
 
 // Writes a line from a place of the sheet on.
 fn line_at(sheet: &mut [u8], at: usize, row: Row)
@@ -34,8 +28,7 @@ fn block_lines(sheet: &mut [u8], at: usize, b: Block) -> usize
     let n = b.count;
     let numbers = b.numbers;
     let values = b.values;
-    let mut i: usize = 0;
-    while i < n {
+    for i in 0..n {
         let row = Row {
             kind: b.kind,
             side: b.side,
@@ -43,7 +36,6 @@ fn block_lines(sheet: &mut [u8], at: usize, b: Block) -> usize
             value: values[i] as u32,
         };
         line_at(sheet, at + 45 * i, row);
-        i += 1;
     }
     at + 45 * n
 }
@@ -56,11 +48,9 @@ fn all_lines(sheet: &mut [u8], at: usize, blocks: [Block; 10]) -> usize
     ensures sheet_after { sheet.new ≡ over at (lines_of (all_rows blocks)) sheet.old }
 {
     let mut next = at;
-    let mut i: usize = 0;
-    while i < 10 {
+    for i in 0..10 {
         let b = blocks[i];
         next = block_lines(sheet, next, b);
-        i += 1;
     }
     next
 }
@@ -72,11 +62,9 @@ fn line_count(blocks: [Block; 10]) -> usize
     ensures { (result ≡ length (all_rows blocks)) × (result ≤ 200) }
 {
     let mut n: usize = 0;
-    let mut i: usize = 0;
-    while i < 10 {
+    for i in 0..10 {
         let b = blocks[i];
         n += b.count;
-        i += 1;
     }
     n
 }
@@ -123,9 +111,9 @@ fn place_lines(sheet: &mut [u8], at: usize, placed: PlaceLines)
     line_at(sheet, at + 45 + 45, z);
 }
 
-// Writes the sheet of a decision at the front of the lent bytes; the bytes after it are kept. Where they are too few for it, 7 is answered and
-// all of them are kept.
-pub fn write_decision(d: Decision, sheet: &mut [u8]) -> SheetAnswer
+// Writes the sheet of a decision at the front of the lent bytes, and answers how many bytes it has; the bytes after it are kept. Where they are too few for it, all of them are
+// kept.
+pub fn write_decision(d: Decision, sheet: &mut [u8]) -> Result<usize, Refusal>
     ensures value { result ≡ Spec.decision_answer d (length sheet.old) }
     ensures sheet_after { sheet.new ≡ Spec.decision_sheet d sheet.old }
 {
@@ -135,7 +123,7 @@ pub fn write_decision(d: Decision, sheet: &mut [u8]) -> SheetAnswer
     let n = line_count(blocks) + placed.lines;
     let bytes = 45 * n + 45;
     if sheet.len() < bytes {
-        return SheetAnswer::Refused(7);
+        return Err(Refusal::SheetRoom);
     }
     let header = Row {
         kind: 0,
@@ -146,5 +134,5 @@ pub fn write_decision(d: Decision, sheet: &mut [u8]) -> SheetAnswer
     line_at(sheet, 0, header);
     let next = all_lines(sheet, 45, blocks);
     place_lines(sheet, next, placed);
-    SheetAnswer::Written(bytes)
+    Ok(bytes)
 }

@@ -12,13 +12,13 @@ use Rattle.game.specs.Codes.{side_code, judgment_code, judgment_side}
 use Rattle.game.specs.declared.BallJudgment.{BallJudgment}
 use Rattle.game.specs.declared.Decision.{Decision}
 use Rattle.game.specs.declared.KickingPlayer.{KickingPlayer}
-use Rattle.game.specs.declared.KickingPlayer.TheVariants.{NoKicker, Kicker}
 use Rattle.game.specs.declared.PlayerList.{PlayerList}
-use Rattle.game.specs.declared.PlayerVerdict.{PlayerVerdict}
 use Rattle.game.specs.declared.Side.{Side}
 use Rattle.game.specs.declared.Side.TheVariants.{Home, Away}
 use Rattle.lines.specs.declared.Row.{Row}
 use Rattle.sheet.specs.Rows.{row, verdict_code, verdict_row, verdict_rows, numbers_of, list_rows, from_one, none, kicker_rows, ball_rows, place_rows, judged_rows, rows_of}
+use Rattle.game.specs.declared.Positioning.{Positioning}
+use Rattle.std.specs.Prelude.{Option, None, Some}
 
 -- every line has a kind up to 6
 pub data Low : List Row → Type 0 where
@@ -42,7 +42,7 @@ low_table : (n : ℕ) (f : ℕ → Row) → ((i : ℕ) → (f i).kind ≤ 6) →
 low_table zero f h = no_line
 low_table (suc n) f h = one_line (h 0) (low_table n (λ k. f (suc k)) (λ i. h (suc i)))
 
-verdicts_low : (side : Side) (vs : List PlayerVerdict) → Low (verdict_rows side vs)
+verdicts_low : (side : Side) (vs : List Positioning) → Low (verdict_rows side vs)
 unfolding verdict_rows
 verdicts_low side vs = low_flat 20 (verdict_row (side_code side) vs) (λ i. low_only (ltb 0 (verdict_code vs i)) (row 1 (side_code side) (i + 1) (verdict_code vs i)) (omega arith))
 
@@ -50,9 +50,9 @@ list_low : (kind : ℕ) (side : Side) (value : ℕ → ℕ) (l : PlayerList) →
 unfolding list_rows
 list_low kind side value l h = low_table (length (numbers_of l)) (λ k. row kind (side_code side) (get_or (numbers_of l) k 0) (value k)) (λ i. h)
 
-kicker_low : (k : KickingPlayer) → Low (kicker_rows k)
-kicker_low NoKicker = no_line
-kicker_low (Kicker side n) = one_line {r = row 3 (side_code side) n 0} (omega arith) no_line
+kicker_low : (k : Option KickingPlayer) → Low (kicker_rows k)
+kicker_low None = no_line
+kicker_low (Some k) = one_line {r = row 3 (side_code k.side) k.number 0} (omega arith) no_line
 
 ball_low : (j : BallJudgment) → Low (ball_rows j)
 unfolding ball_rows

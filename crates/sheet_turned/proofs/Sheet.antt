@@ -7,12 +7,15 @@ use native.Mathlib.Omega.{arith}
 use lib.Dec.{eqb, ltb}
 use lib.Ieee.{Float}
 use lib.ListN.{length}
+use Rattle.std.specs.Prelude.{Result, Ok}
 use Rattle.game.specs.Codes.{side_code}
 use Rattle.game.specs.declared.Decision.{Decision}
 use Rattle.game.specs.declared.Placement.{Placement}
 use Rattle.game.specs.declared.Side.{Side}
 use Rattle.game.specs.declared.Situation.{Situation}
 use Rattle.places.specs.Turned.{ChangedHeading, ChangedPlace, none, ball, player}
+use Rattle.refusal.specs.Refusal.{refused}
+use Rattle.refusal.specs.declared.Refusal.{Refusal}
 use Rattle.refusals.specs.Refusals.{refusal_of}
 use Rattle.decision.specs.Changed.{keeps_heading, ChangedDecision}
 use Rattle.decision.specs.Decision.{decision_of}
@@ -21,8 +24,6 @@ use Rattle.decision.proofs.HalfTurn.{half_turn}
 use Rattle.lines.specs.declared.Row.{Row}
 use Rattle.sheet.specs.Rows.{row, placed_value, place_rows, judged_rows, header, rows_of, sheet_rows}
 use Rattle.sheet.specs.Sheet.{text_of}
-use Rattle.sheet.specs.declared.text.SheetAnswer.{SheetAnswer}
-use Rattle.sheet.specs.declared.text.SheetAnswer.TheVariants.{Refused, Written}
 use Rattle.sheet.proofs.Answers.{text_long}
 use Rattle.call.specs.declared.SheetFor.{SheetFor}
 use Rattle.call.specs.Call.{shows, sheet_answer}
@@ -88,14 +89,14 @@ judged_same s d e c = simp (c.home.verdicts, c.away.verdicts, c.home.excess, c.a
 abbrev first_for : SheetFor → ℕ → ℕ
 first_for to lines = cond (shows to lines) 0 12
 
-abbrev answer_for : SheetFor → ℕ → ℕ → ℕ → SheetAnswer
-answer_for to lines n lent = cond (eqb (first_for to lines) 0) (cond (ltb lent n) (Refused 7) (Written n)) (Refused (first_for to lines))
+abbrev answer_for : SheetFor → ℕ → ℕ → ℕ → Result ℕ Refusal
+answer_for to lines n lent = cond (eqb (first_for to lines) 0) (cond (ltb lent n) (refused 7) (Ok n)) (refused (first_for to lines))
 
 accepted_answer : (to : SheetFor) (s : Situation) (xs ys : List Float) (lent : ℕ) → refusal_of s xs ys ≡ 0 → sheet_answer to s xs ys lent ≡ answer_for to (length (rows_of (decision_of s xs ys))) (length (text_of (decision_of s xs ys))) lent
 accepted_answer to s xs ys lent h =
     let text = text_of (decision_of s xs ys) in
     answer_cases to s xs ys lent
-    ∙ ap (λ (n : ℕ). cond (eqb n 0) (cond (ltb lent (length text)) (Refused 7) (Written (length text))) (Refused n)) (by_lines to s xs ys (shows to (length (rows_of (decision_of s xs ys)))) h refl)
+    ∙ ap (λ (n : ℕ). cond (eqb n 0) (cond (ltb lent (length text)) (refused 7) (Ok (length text))) (refused n)) (by_lines to s xs ys (shows to (length (rows_of (decision_of s xs ys)))) h refl)
 
 told : (s : Situation) (xs ys : List Float) → Placed (decision_of s xs ys).place → refusal_of s xs ys ≡ 0 → HalfTurn s xs ys → (Excepted s → ⊥) → TurnedSheet s xs ys
 told s xs ys finite h turn out =

@@ -22,8 +22,7 @@ fn walk_from(first: f32, min: f32, max: f32, step: f32) -> Walk
     ensures { (result.turns ≡ Spec.turns_from first min max step) × (result.count ≡ length (flat_to 8192 (places_at first min max step))) }
 {
     let mut n: u16 = 0;
-    let mut k: u16 = 0;
-    while k < 8192 {
+    for k in 0..8192 {
         let out = from_count(k + 1) * step;
         let lower = first - out;
         let upper = first + out;
@@ -31,9 +30,11 @@ fn walk_from(first: f32, min: f32, max: f32, step: f32) -> Walk
             return Walk { turns: k, count: n };
         }
         n += (lower >= min) as u16 + (upper <= max) as u16;
-        k += 1;
     }
-    Walk { turns: k, count: n }
+    Walk {
+        turns: 8192,
+        count: n,
+    }
 }
 
 // A bound is a NaN, or min is above max: degenerate dimensions, for which clamp has no answer.

@@ -9,29 +9,29 @@ use lib.ListN.{get_or}
 use Rattle.lists.specs.Table.{table}
 use Rattle.game.specs.Players.{nobody, player_at, player_numbered, team_of}
 use Rattle.game.specs.declared.Player.{Player}
-use Rattle.game.specs.declared.SeenPose.{SeenPose}
-use Rattle.game.specs.declared.SeenPose.TheVariants.{Absent, Present}
 use Rattle.game.specs.declared.Side.{Side}
 use Rattle.game.specs.declared.Side.TheVariants.{Home, Away}
-use Rattle.words.specs.Words.{word_at, float_at, flag_at, pose_at, seen_pose_at, player_of, team_in, situation_of}
+use Rattle.words.specs.Words.{word_at, float_at, flag_at, pose_at, pose_if_at, player_of, team_in, situation_of}
+use Rattle.std.specs.Prelude.{Option, None, Some}
+use Rattle.game.specs.declared.PlayerPose.{PlayerPose}
 
 pub float_fits : (ws : List ℕ) (i : ℕ) → T (fits binary32 (float_at ws i))
 unfolding float_at
 float_fits ws i = of_bits-fits binary32 (word_at ws i)
 
 -- ---- a property that an absent player has, and each pose of the words
-module _ (P : SeenPose → Type 0) (absent : P Absent) (ws : List ℕ) (present : (i : ℕ) → P (Present (pose_at ws i))) where
+module _ (P : Option PlayerPose → Type 0) (absent : P None) (ws : List ℕ) (present : (i : ℕ) → P (Some (pose_at ws i))) where
   -- past the end of a table nobody is
   table_poses : (n : ℕ) (f : ℕ → Player) → ((k : ℕ) → P (f k).pose) → (i : ℕ) → P (get_or (table n f) i nobody).pose
   table_poses zero f h i = absent
   table_poses (suc n) f h zero = h 0
   table_poses (suc n) f h (suc i) = table_poses n (λ k. f (suc k)) (λ k. h (suc k)) i
 
-  seen_pose : (i : ℕ) → P (seen_pose_at ws i)
-  unfolding seen_pose_at
+  seen_pose : (i : ℕ) → P (pose_if_at ws i)
+  unfolding pose_if_at
   seen_pose i = go (flag_at ws i)
     where
-      go : (there : Bool) → P (cond there (Present (pose_at ws (i + 1))) Absent)
+      go : (there : Bool) → P (cond there (Some (pose_at ws (i + 1))) None)
       go true = present (i + 1)
       go false = absent
 

@@ -1,5 +1,5 @@
 -- The situation that words of 32 bits are, by the layout of the crate `columns`. Definitions only.
-use Rattle.std.specs.Prelude.{Bool, cond, List, [], ◌∷◌, ℕ, ◌+◌, ◌*◌, ltb, eqb, get_or, Float}
+use Rattle.std.specs.Prelude.{Bool, cond, List, [], ◌∷◌, ℕ, ◌+◌, ◌*◌, ltb, eqb, get_or, Float, Option, None, Some}
 use Rattle.std.specs.Float.{binary32}
 use Rattle.std.specs.Float.Ieee.{of_bits}
 use Rattle.lists.specs.Table.{table}
@@ -16,16 +16,8 @@ use Rattle.game.specs.declared.SetPlay.{SetPlay}
 use Rattle.game.specs.declared.SetPlay.TheVariants.{NoSetPlay, KickOff, DirectFreeKick, IndirectFreeKick, PenaltyKick, ThrowIn, GoalKick, CornerKick}
 use Rattle.game.specs.declared.Penalty.{Penalty}
 use Rattle.game.specs.declared.Penalty.TheVariants.{NoPenalty, IllegalPositioning, MotionInSet, MotionInStop, LocalGameStuck, IncapableRobot, PickedUp, BallHolding, LeavingTheField, PlayingWithArmsHands, Pushing, Cautioned, SentOff, Substitute}
-use Rattle.game.specs.declared.MaybeSide.{MaybeSide}
-use Rattle.game.specs.declared.MaybeSide.TheVariants.{NoSide, Of}
-use Rattle.game.specs.declared.MaybeNumber.{MaybeNumber}
-use Rattle.game.specs.declared.MaybeNumber.TheVariants.{NoNumber, Number}
 use Rattle.game.specs.declared.FieldDimensions.{FieldDimensions}
 use Rattle.game.specs.declared.PlayerPose.{PlayerPose}
-use Rattle.game.specs.declared.SeenPose.{SeenPose}
-use Rattle.game.specs.declared.SeenPose.TheVariants.{Absent, Present}
-use Rattle.game.specs.declared.ReferencePose.{ReferencePose}
-use Rattle.game.specs.declared.ReferencePose.TheVariants.{NoReference, Reference}
 use Rattle.game.specs.declared.Player.{Player}
 use Rattle.game.specs.declared.Team.{Team}
 use Rattle.game.specs.declared.Game.{Game}
@@ -33,8 +25,6 @@ use Rattle.game.specs.declared.Ball.{Ball}
 use Rattle.game.specs.declared.RestartKind.{RestartKind}
 use Rattle.game.specs.declared.RestartKind.TheVariants as kind
 use Rattle.game.specs.declared.Restart.{Restart}
-use Rattle.game.specs.declared.MaybeRestart.{MaybeRestart}
-use Rattle.game.specs.declared.MaybeRestart.TheVariants.{NoRestart, InEffect}
 use Rattle.game.specs.declared.Wish.{Wish}
 use Rattle.game.specs.declared.Wish.TheVariants.{Nothing, BallAtRestart, BallInSet, ForPenalty, ForPenaltyShot, Goalkeeper}
 use Rattle.game.specs.declared.Situation.{Situation}
@@ -99,12 +89,12 @@ unfoldable pub restart_kind_of : ℕ → RestartKind
 restart_kind_of w = get_or restart_kinds w kind.KickOff
 
 -- 0 Home, 1 Away, 2 none
-unfoldable pub maybe_side_of : ℕ → MaybeSide
-maybe_side_of w = cond (ltb w 2) (Of (side_of w)) NoSide
+unfoldable pub maybe_side_of : ℕ → Option Side
+maybe_side_of w = cond (ltb w 2) (Some (side_of w)) None
 
 -- the number, from 256 on none
-unfoldable pub maybe_number_of : ℕ → MaybeNumber
-maybe_number_of w = cond (ltb w 256) (Number w) NoNumber
+unfoldable pub maybe_number_of : ℕ → Option ℕ
+maybe_number_of w = cond (ltb w 256) (Some w) None
 
 -- the number, from 256 on 0
 unfoldable pub number_of : ℕ → ℕ
@@ -156,18 +146,15 @@ unfoldable pub pose_at : List ℕ → ℕ → PlayerPose
 pose_at ws i = record { x = float_at ws i; y = float_at ws (i + 1); theta = float_at ws (i + 2); radius = float_at ws (i + 3) }
 
 -- a pose with the word before it, which says whether it is there
-unfoldable pub seen_pose_at : List ℕ → ℕ → SeenPose
-seen_pose_at ws i = cond (flag_at ws i) (Present (pose_at ws (i + 1))) Absent
-
-unfoldable pub reference_pose_at : List ℕ → ℕ → ReferencePose
-reference_pose_at ws i = cond (flag_at ws i) (Reference (pose_at ws (i + 1))) NoReference
+unfoldable pub pose_if_at : List ℕ → ℕ → Option PlayerPose
+pose_if_at ws i = cond (flag_at ws i) (Some (pose_at ws (i + 1))) None
 
 -- the player k of the 40
 unfoldable pub player_of : List ℕ → ℕ → Player
 player_of ws k =
     record {
-      pose = seen_pose_at ws (At.poses + At.pose_words * k);
-      reference = reference_pose_at ws (At.references + At.pose_words * k);
+      pose = pose_if_at ws (At.poses + At.pose_words * k);
+      reference = pose_if_at ws (At.references + At.pose_words * k);
       penalty = penalty_of (word_at ws (At.penalties + k));
       allowance = float_at ws (At.allowances + k);
       previously_inside = flag_at ws (At.previously_inside + k);
@@ -198,8 +185,8 @@ restart_of ws =
     }
 
 -- the record, where it is there
-unfoldable pub maybe_restart_of : List ℕ → MaybeRestart
-maybe_restart_of ws = cond (flag_at ws At.restart) (InEffect (restart_of ws)) NoRestart
+unfoldable pub maybe_restart_of : List ℕ → Option Restart
+maybe_restart_of ws = cond (flag_at ws At.restart) (Some (restart_of ws)) None
 
 -- the wishes in their order, each with the side and the number that it names
 abbrev pub wishes : Side → ℕ → List Wish

@@ -1,25 +1,31 @@
 // The situation that words of 32 bits are, by the layout of the crate `columns`. A word past the end counts as 0, and one that is none of its column's values gives the first of them, or none.
 #![tactic(auto)]
 
-ghost use Rattle.std.specs.Prelude.{◌≡◌, ◌<◌, ◌≤◌};
+ghost use Rattle.std.specs.Prelude.{◌≡◌, ◌<◌, ◌≤◌, slice_index_or};
 ghost use Rattle.columns.specs.Layout.{word_count};
 ghost use Rattle.words.specs.Words as Spec;
 
 use columns::layout;
 use game::{
-    Ball, FieldDimensions, Game, MaybeNumber, MaybeRestart, MaybeSide, Penalty, Phase, Player,
-    PlayerPose, ReferencePose, Restart, RestartKind, SeenPose, SetPlay, Side, SideMapping,
-    Situation, State, Team, Wish,
+    Ball, FieldDimensions, Game, Penalty, Phase, Player, PlayerPose, Restart, RestartKind, SetPlay,
+    Side, SideMapping, Situation, State, Team, Wish,
 };
+
+// The value at a place of a list, and past its end the other one.
+fn value_at<T: Copy>(all: &[T], i: usize, other: T) -> T
+    ensures { result ≡ slice_index_or all.now i other }
+{
+    match all.get(i) {
+        Some(value) => *value,
+        None => other,
+    }
+}
 
 #[tactic(auto, unfolding(crate::specs::Words::word_at))]
 fn word_at(words: &[u32], i: usize) -> u32
     ensures { result ≡ Spec.word_at words.now i }
 {
-    if i < words.len() {
-        return words[i];
-    }
-    0
+    value_at(words, i, 0)
 }
 
 #[tactic(auto, unfolding(crate::specs::Words::float_at))]
@@ -67,11 +73,7 @@ fn phase_of(word: u32) -> Phase
         Phase::SecondExtraHalf,
         Phase::PenaltyShootout,
     ];
-    let i = word as usize;
-    if i < 5 {
-        return all[i];
-    }
-    Phase::FirstHalf
+    value_at(&all, word as usize, Phase::FirstHalf)
 }
 
 #[tactic(auto, unfolding(crate::specs::Words::state_of))]
@@ -86,11 +88,7 @@ fn state_of(word: u32) -> State
         State::Finished,
         State::Timeout,
     ];
-    let i = word as usize;
-    if i < 6 {
-        return all[i];
-    }
-    State::Initial
+    value_at(&all, word as usize, State::Initial)
 }
 
 #[tactic(auto, unfolding(crate::specs::Words::set_play_of))]
@@ -107,11 +105,7 @@ fn set_play_of(word: u32) -> SetPlay
         SetPlay::GoalKick,
         SetPlay::CornerKick,
     ];
-    let i = word as usize;
-    if i < 8 {
-        return all[i];
-    }
-    SetPlay::NoSetPlay
+    value_at(&all, word as usize, SetPlay::NoSetPlay)
 }
 
 #[tactic(auto, unfolding(crate::specs::Words::penalty_of))]
@@ -134,11 +128,7 @@ fn penalty_of(word: u32) -> Penalty
         Penalty::SentOff,
         Penalty::Substitute,
     ];
-    let i = word as usize;
-    if i < 14 {
-        return all[i];
-    }
-    Penalty::NoPenalty
+    value_at(&all, word as usize, Penalty::NoPenalty)
 }
 
 #[tactic(auto, unfolding(crate::specs::Words::restart_kind_of))]
@@ -151,32 +141,28 @@ fn restart_kind_of(word: u32) -> RestartKind
         RestartKind::Direct,
         RestartKind::PenaltyShot,
     ];
-    let i = word as usize;
-    if i < 4 {
-        return all[i];
-    }
-    RestartKind::KickOff
+    value_at(&all, word as usize, RestartKind::KickOff)
 }
 
 #[tactic(auto, unfolding(crate::specs::Words::maybe_side_of))]
-fn maybe_side_of(word: u32) -> MaybeSide
+fn maybe_side_of(word: u32) -> Option<Side>
     ensures { result ≡ Spec.maybe_side_of word }
 {
     if word < 2 {
         let side = side_of(word);
-        return MaybeSide::Of(side);
+        return Some(side);
     }
-    MaybeSide::NoSide
+    None
 }
 
 #[tactic(auto, unfolding(crate::specs::Words::maybe_number_of))]
-fn maybe_number_of(word: u32) -> MaybeNumber
+fn maybe_number_of(word: u32) -> Option<u8>
     ensures { result ≡ Spec.maybe_number_of word }
 {
     if word < 256 {
-        return MaybeNumber::Number(word as u8);
+        return Some(word as u8);
     }
-    MaybeNumber::NoNumber
+    None
 }
 
 #[tactic(auto, unfolding(crate::specs::Words::number_of))]
@@ -246,28 +232,15 @@ fn pose_at(words: &[u32], i: usize) -> PlayerPose
 }
 
 // A pose with the word before it, which says whether it is there.
-#[tactic(auto, unfolding(crate::specs::Words::seen_pose_at))]
-fn seen_pose_at(words: &[u32], i: usize) -> SeenPose
+#[tactic(auto, unfolding(crate::specs::Words::pose_if_at))]
+fn pose_if_at(words: &[u32], i: usize) -> Option<PlayerPose>
     requires { i < word_count }
-    ensures { result ≡ Spec.seen_pose_at words.now i }
+    ensures { result ≡ Spec.pose_if_at words.now i }
 {
     if flag_at(words, i) {
-        let pose = pose_at(words, i + 1);
-        return SeenPose::Present(pose);
+        return Some(pose_at(words, i + 1));
     }
-    SeenPose::Absent
-}
-
-#[tactic(auto, unfolding(crate::specs::Words::reference_pose_at))]
-fn reference_pose_at(words: &[u32], i: usize) -> ReferencePose
-    requires { i < word_count }
-    ensures { result ≡ Spec.reference_pose_at words.now i }
-{
-    if flag_at(words, i) {
-        let pose = pose_at(words, i + 1);
-        return ReferencePose::Reference(pose);
-    }
-    ReferencePose::NoReference
+    None
 }
 
 // The player k of the 40.
@@ -276,8 +249,8 @@ fn player_of(words: &[u32], k: usize) -> Player
     requires { k < 40 }
     ensures { result ≡ Spec.player_of words.now k }
 {
-    let pose = seen_pose_at(words, layout::POSES + layout::POSE_WORDS * k);
-    let reference = reference_pose_at(words, layout::REFERENCES + layout::POSE_WORDS * k);
+    let pose = pose_if_at(words, layout::POSES + layout::POSE_WORDS * k);
+    let reference = pose_if_at(words, layout::REFERENCES + layout::POSE_WORDS * k);
     let penalty = penalty_of(word_at(words, layout::PENALTIES + k));
     let allowance = float_at(words, layout::ALLOWANCES + k);
     let previously_inside = flag_at(words, layout::PREVIOUSLY_INSIDE + k);
@@ -298,10 +271,8 @@ fn team_in(words: &[u32], side: usize) -> Team
 {
     let blank = player_of(words, 20 * side);
     let mut players = [blank; 20];
-    let mut i: usize = 0;
-    while i < 20 {
+    for i in 0..20 {
         players[i] = player_of(words, 20 * side + i);
-        i += 1;
     }
     let goalkeeper = maybe_number_of(word_at(words, layout::GOALKEEPERS + side));
     Team {
@@ -311,7 +282,7 @@ fn team_in(words: &[u32], side: usize) -> Team
 }
 
 #[tactic(auto, unfolding(crate::specs::Words::restart_of, crate::specs::Words::maybe_restart_of))]
-fn maybe_restart_of(words: &[u32]) -> MaybeRestart
+fn maybe_restart_of(words: &[u32]) -> Option<Restart>
     ensures { result ≡ Spec.maybe_restart_of words.now }
 {
     if flag_at(words, layout::RESTART) {
@@ -334,9 +305,9 @@ fn maybe_restart_of(words: &[u32]) -> MaybeRestart
             kicker_touched_far_from_kick: flag_at(words, layout::KICKER_TOUCHED_FAR_FROM_KICK),
             ball_moved_since_kick: flag_at(words, layout::BALL_MOVED_SINCE_KICK),
         };
-        return MaybeRestart::InEffect(restart);
+        return Some(restart);
     }
-    MaybeRestart::NoRestart
+    None
 }
 
 // The wish, with the side and the number that it may name.
@@ -354,11 +325,7 @@ fn wish_of(words: &[u32]) -> Wish
         Wish::ForPenaltyShot(side, number),
         Wish::Goalkeeper(side),
     ];
-    let i = word_at(words, layout::WISH) as usize;
-    if i < 6 {
-        return all[i];
-    }
-    Wish::Nothing
+    value_at(&all, word_at(words, layout::WISH) as usize, Wish::Nothing)
 }
 
 // The situation that the words are.

@@ -4,4 +4,4 @@ use Rattle.records.proofs.Lying.{whole_within}
 use Rattle.case_checks.proofs.step.Goals as goal
 
 pub agrees-requires : goal.agrees-requires
-agrees-requires g c = whole_within _ _ _ (sym c.record_at-found.ensures ∙ c.in-Whole.is)
+agrees-requires g c = whole_within _ _ _ (sym c.record_at.ensures ∙ c.in-Some.is)

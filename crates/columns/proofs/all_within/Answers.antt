@@ -1,12 +1,12 @@
-use Rattle.std.proofs.Common.{rules, refl}
+use Rattle.std.proofs.Common.{refl}
 use Rattle.lists.proofs.Every.{every_none, every_turn, every_done}
 use Rattle.columns.proofs.all_within.Goals as goal
 
 pub loop-i-init : goal.loop-i-init
-loop-i-init c = (search rules, every_none _)
+loop-i-init c = every_none _
 
 pub loop-i-preserved : goal.loop-i-preserved
-loop-i-preserved c = (search rules, every_turn _ _ _ _ c.loop-i.invariant.1 refl)
+loop-i-preserved c = every_turn _ _ _ _ c.loop-i.invariant refl
 
 pub returns : goal.returns
-returns c = every_done _ _ _ _ c.loop-i.invariant.0 c.loop-i-test.false c.loop-i.invariant.1
+returns c = every_done _ _ _ _ c.loop-i.auto.i-end c.loop-i-test.false c.loop-i.invariant

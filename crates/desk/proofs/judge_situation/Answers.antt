@@ -1,16 +1,19 @@
 -- The refusal's line stands where the sheet would; a sheet stays as it was written.
-use Rattle.std.proofs.Common.{refl, ap}
-use Rattle.sheet.specs.declared.text.SheetAnswer.TheVariants.{Refused, Written}
+use Rattle.std.proofs.Common.{Ok, Err, refl, ap, List, ℕ, ◌∙◌}
+use Rattle.replies.specs.Replies.{refused_line, line_in, written_in}
 use Rattle.desk.specs.declared.Reply.TheVariants.{Told}
 use Rattle.desk.proofs.Judged.{reply_printed}
 use Rattle.desk.proofs.judge_situation.Goals as goal
 
-pub returns-in-Refused : goal.returns-in-Refused
-returns-in-Refused c =
-    let p = reply_printed c.args.wanted c.args.s c.args.xs.now c.args.ys.now c.args.out.now (Refused _) _ _ _ c.in-Refused.ensures.value c.in-Refused.ensures.out_after (ap Told c.refused_line.ensures.value) c.refused_line.ensures.out_after in
+pub returns-in-Err : goal.returns-in-Err
+returns-in-Err c =
+    let told = ap refused_line c.number_of.ensures in
+    let mid = c.write_wanted-answer.new.out in
+    let p = reply_printed c.args.wanted c.args.s c.args.xs.now c.args.ys.now c.args.out.now (Err _) mid _ _ c.in-Err.ensures.value c.in-Err.ensures.out_after
+    (ap Told (c.refused_line.ensures.value ∙ ap (λ (l : List ℕ). written_in l mid) told)) (c.refused_line.ensures.out_after ∙ ap (λ (l : List ℕ). line_in l mid) told) in
     record { value = p.0; out_after = p.1 }
 
-pub returns-in-Written : goal.returns-in-Written
-returns-in-Written c =
-    let p = reply_printed c.args.wanted c.args.s c.args.xs.now c.args.ys.now c.args.out.now (Written c.in-Written.n) c.write_wanted-answer.new.out _ _ c.in-Written.ensures.value c.in-Written.ensures.out_after refl refl in
+pub returns-in-Ok : goal.returns-in-Ok
+returns-in-Ok c =
+    let p = reply_printed c.args.wanted c.args.s c.args.xs.now c.args.ys.now c.args.out.now (Ok _) c.write_wanted-answer.new.out _ _ c.in-Ok.ensures.value c.in-Ok.ensures.out_after refl refl in
     record { value = p.0; out_after = p.1 }

@@ -1,11 +1,8 @@
 -- After i turns the count is that of the keys below i.
-use Rattle.std.proofs.Common.{◌≡◌, ◌-◌, ◌≤◌, get_or}
+use Rattle.std.proofs.Common.{◌≡◌, get_or}
 use Rattle.lists.specs.Counting.{count_to}
 use Rattle.keys.specs.Keys.{has_key}
 use Rattle.excess.proofs.key_count.Given as goal
 
 abbrev pub invariant-loop-i : goal.invariant-loop-i
-invariant-loop-i l = (l.i ≤ 20) × (l.n ≡ count_to l.i (has_key (λ k. get_or l.keys k 0)))
-
-abbrev pub decreases-loop-i : goal.decreases-loop-i
-decreases-loop-i l = 20 - l.i
+invariant-loop-i l = l.n ≡ count_to l.i (has_key (λ k. get_or l.keys k 0))

@@ -1,15 +1,37 @@
 -- By the four numbers and the last byte.
-use Rattle.std.proofs.Common.{arith}
-use Rattle.fields.proofs.Told.{line_refused, line_accepted, line_past}
+use mathlib.Core.Path.{refl}
+use Rattle.std.proofs.Common.{arith, ◌∙◌}
+use borrow.Author.Tests.{eq-eqb, ne_eqb}
+use Rattle.fields.proofs.Told.{line_told, line_past}
 use Rattle.fields.proofs.line_at.Goals as goal
 
 pub returns-then-i-text : goal.returns-then-i-text
 returns-then-i-text c = line_past c.args.text.now c.args.i c.if-i-text.true
 
-pub returns-then-wrong : goal.returns-then-wrong
-returns-then-wrong c =
-    line_refused c.args.text.now c.args.i _ _ _ _ (omega (arith, c.if-i-text.false)) c.value_at-kind.ensures c.value_at-side.ensures c.value_at-number.ensures c.value_at-value.ensures c.if-wrong.true
+pub returns-in_err-kind : goal.returns-in_err-kind
+returns-in_err-kind c = c.from_residual.ensures ∙ line_told c.args.text.now c.args.i _ _ _ _ _ (omega (arith, c.if-i-text.false)) c.in_err-kind.ensures refl refl refl refl
+
+pub returns-in_err-side : goal.returns-in_err-side
+returns-in_err-side c =
+    c.from_residual-in_err-side.ensures
+    ∙ line_told c.args.text.now c.args.i _ _ _ _ _ (omega (arith, c.if-i-text.false)) c.in_ok-kind.ensures c.in_err-side.ensures refl refl refl
+
+pub returns-in_err-number : goal.returns-in_err-number
+returns-in_err-number c =
+    c.from_residual-in_err-number.ensures
+    ∙ line_told c.args.text.now c.args.i _ _ _ _ _ (omega (arith, c.if-i-text.false)) c.in_ok-kind.ensures c.in_ok-side.ensures c.in_err-number.ensures refl refl
+
+pub returns-in_err-value : goal.returns-in_err-value
+returns-in_err-value c =
+    c.from_residual-in_err-value.ensures
+    ∙ line_told c.args.text.now c.args.i _ _ _ _ _ (omega (arith, c.if-i-text.false)) c.in_ok-kind.ensures c.in_ok-side.ensures c.in_ok-number.ensures c.in_err-value.ensures refl
+
+pub returns-then-text-at-ne10 : goal.returns-then-text-at-ne10
+returns-then-text-at-ne10 c =
+    line_told c.args.text.now c.args.i _ _ _ _ _ (omega (arith, c.if-i-text.false)) c.in_ok-kind.ensures c.in_ok-side.ensures c.in_ok-number.ensures c.in_ok-value.ensures
+    (ne_eqb _ 10 c.if-text-at-ne10.true)
 
 pub returns : goal.returns
 returns c =
-    line_accepted c.args.text.now c.args.i _ _ _ _ (omega (arith, c.if-i-text.false)) c.value_at-kind.ensures c.value_at-side.ensures c.value_at-number.ensures c.value_at-value.ensures c.if-wrong.false
+    line_told c.args.text.now c.args.i _ _ _ _ _ (omega (arith, c.if-i-text.false)) c.in_ok-kind.ensures c.in_ok-side.ensures c.in_ok-number.ensures c.in_ok-value.ensures
+    (eq-eqb _ 10 c.if-text-at-ne10.false)

@@ -4,8 +4,8 @@ use Rattle.geometry.specs.Geometry.{compute_margins}
 use Rattle.geometry.proofs.compute_margins.Goals as goal
 
 pub loop-i-preserved : goal.loop-i-preserved
-loop-i-preserved c = (search rules, turn _ _ _ _ _ (search rules) c.loop-i.invariant.1 c.player_margins.ensures)
+loop-i-preserved c = turn _ _ _ _ _ (search rules) c.loop-i.invariant c.player_margins.ensures
 
 pub returns : goal.returns
 unfolding compute_margins
-returns c = done _ _ _ _ 20 refl c.loop-i.invariant.0 c.loop-i-test.false c.loop-i.invariant.1
+returns c = done _ _ _ _ 20 refl c.loop-i.auto.i-end c.loop-i-test.false c.loop-i.invariant

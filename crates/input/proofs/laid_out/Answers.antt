@@ -1,16 +1,17 @@
 -- The tests come in the order of the definition, and each count is the number in the slice.
-use Rattle.std.proofs.Common.{◌≡◌, ℕ, ◌<◌, ◌≤◌, min, List, take, get_or, ap, ◌∙◌, arith}
+use Rattle.std.specs.Prelude.{Result}
+use Rattle.std.proofs.Common.{◌≡◌, ℕ, ◌<◌, ◌≤◌, min, List, take, get_or, refl, ap, ◌∙◌, arith}
 use Rattle.columns.specs.Layout.{word_count}
 use Rattle.columns.specs.Columns.{words_within}
-use Rattle.input.specs.declared.Input.{Input}
-use Rattle.input.specs.declared.Input.TheVariants.{Wrong}
+use Rattle.input.specs.declared.Lists.{Lists}
+use Rattle.input.specs.declared.Wrong.{Wrong}
 use Rattle.input.specs.declared.Fault.TheVariants.{Outside}
-use Rattle.input.specs.Input.{most_places, count_x, count_y, after_counts, after_x, after_words, with_words}
+use Rattle.input.specs.Input.{wrong_at, most_places, count_x, count_y, after_counts, after_x, after_words, with_words}
 use Rattle.input.proofs.Tests.{outside, all_inside, x_missing, x_long, x_counted, y_missing, y_long, y_counted, too_few, too_many, just_so_many}
 use Rattle.input.proofs.laid_out.Goals as goal
 
 -- the answer for the numbers
-abbrev Whole : List ℕ → ℕ → Input
+abbrev Whole : List ℕ → ℕ → Result Lists Wrong
 Whole ns n = with_words ns n (words_within (take (min n word_count) ns))
 
 module _ (ns : List ℕ) (n there w : ℕ) (t : there ≡ min n word_count) (e : w ≡ words_within (take there ns)) where
@@ -18,7 +19,7 @@ module _ (ns : List ℕ) (n there w : ℕ) (t : there ≡ min n word_count) (e :
   counted : w ≡ words_within (take (min n word_count) ns)
   counted = e ∙ ap (λ (k : ℕ). words_within (take k ns)) t
 
-  first_outside : w < there → Wrong w Outside ≡ Whole ns n
+  first_outside : w < there → wrong_at w Outside ≡ Whole ns n
   first_outside h = outside ns n w (omega arith) ∙ ap (with_words ns n) counted
 
   -- the words are all within: what is left is asked of the number after them
@@ -37,36 +38,36 @@ module _ (ns : List ℕ) (n there w : ℕ) (t : there ≡ min n word_count) (e :
 pub returns : goal.returns
 returns c =
     just_so_many _ _ _ c.if-n-all.false c.if-all-n.false
-    ∙ y_read _ _ _ _ c.lesser-there.ensures c.words_within-w.ensures c.if-w-there.false c.if-n-le-WORDS.false _ c.count_of-nx.ensures c.if-long_x.false
-    c.if-n-at.false _ c.count_of-ny.ensures c.if-long_y.false
+    ∙ y_read _ _ _ _ c.min-there.ensures c.words_within-w.ensures c.if-w-there.false c.if-n-le-WORDS.false _ refl c.if-long_x.false
+    c.if-n-at.false _ refl c.if-long_y.false
 
 pub returns-then-w-there : goal.returns-then-w-there
-returns-then-w-there c = first_outside _ _ _ _ c.lesser-there.ensures c.words_within-w.ensures c.if-w-there.true
+returns-then-w-there c = first_outside _ _ _ _ c.min-there.ensures c.words_within-w.ensures c.if-w-there.true
 
 pub returns-then-n-le-WORDS : goal.returns-then-n-le-WORDS
-returns-then-n-le-WORDS c = x_missing _ _ c.if-n-le-WORDS.true ∙ inside _ _ _ _ c.lesser-there.ensures c.words_within-w.ensures c.if-w-there.false
+returns-then-n-le-WORDS c = x_missing _ _ c.if-n-le-WORDS.true ∙ inside _ _ _ _ c.min-there.ensures c.words_within-w.ensures c.if-w-there.false
 
 pub returns-then-long_x : goal.returns-then-long_x
 returns-then-long_x c =
-    x_long _ _ _ c.count_of-nx.ensures c.if-n-le-WORDS.false c.if-long_x.true ∙ inside _ _ _ _ c.lesser-there.ensures c.words_within-w.ensures c.if-w-there.false
+    x_long _ _ _ refl c.if-n-le-WORDS.false c.if-long_x.true ∙ inside _ _ _ _ c.min-there.ensures c.words_within-w.ensures c.if-w-there.false
 
 pub returns-then-n-at : goal.returns-then-n-at
 returns-then-n-at c =
-    y_missing _ _ _ c.if-n-at.true ∙ x_read _ _ _ _ c.lesser-there.ensures c.words_within-w.ensures c.if-w-there.false c.if-n-le-WORDS.false _ c.count_of-nx.ensures c.if-long_x.false
+    y_missing _ _ _ c.if-n-at.true ∙ x_read _ _ _ _ c.min-there.ensures c.words_within-w.ensures c.if-w-there.false c.if-n-le-WORDS.false _ refl c.if-long_x.false
 
 pub returns-then-long_y : goal.returns-then-long_y
 returns-then-long_y c =
-    y_long _ _ _ _ c.count_of-ny.ensures c.if-n-at.false (omega (arith, c.if-long_y.true))
-    ∙ x_read _ _ _ _ c.lesser-there.ensures c.words_within-w.ensures c.if-w-there.false c.if-n-le-WORDS.false _ c.count_of-nx.ensures c.if-long_x.false
+    y_long _ _ _ _ refl c.if-n-at.false (omega (arith, c.if-long_y.true))
+    ∙ x_read _ _ _ _ c.min-there.ensures c.words_within-w.ensures c.if-w-there.false c.if-n-le-WORDS.false _ refl c.if-long_x.false
 
 pub returns-then-n-all : goal.returns-then-n-all
 returns-then-n-all c =
     too_few _ _ _ c.if-n-all.true
-    ∙ y_read _ _ _ _ c.lesser-there.ensures c.words_within-w.ensures c.if-w-there.false c.if-n-le-WORDS.false _ c.count_of-nx.ensures c.if-long_x.false
-    c.if-n-at.false _ c.count_of-ny.ensures c.if-long_y.false
+    ∙ y_read _ _ _ _ c.min-there.ensures c.words_within-w.ensures c.if-w-there.false c.if-n-le-WORDS.false _ refl c.if-long_x.false
+    c.if-n-at.false _ refl c.if-long_y.false
 
 pub returns-then-all-n : goal.returns-then-all-n
 returns-then-all-n c =
     too_many _ _ _ c.if-all-n.true c.if-n-all.false
-    ∙ y_read _ _ _ _ c.lesser-there.ensures c.words_within-w.ensures c.if-w-there.false c.if-n-le-WORDS.false _ c.count_of-nx.ensures c.if-long_x.false
-    c.if-n-at.false _ c.count_of-ny.ensures c.if-long_y.false
+    ∙ y_read _ _ _ _ c.min-there.ensures c.words_within-w.ensures c.if-w-there.false c.if-n-le-WORDS.false _ refl c.if-long_x.false
+    c.if-n-at.false _ refl c.if-long_y.false

@@ -3,11 +3,12 @@ use Rattle.std.proofs.Common.{◌≡◌, Bool, false, List, get_or, ap, ap₂, �
 use Rattle.lists.proofs.Table.{table_at, table_same}
 use Rattle.game.specs.Players.{player_at, numbers_where}
 use Rattle.game.specs.declared.PlayerList.{PlayerList}
-use Rattle.game.specs.declared.PlayerReference.{PlayerReference}
 use Rattle.game.specs.declared.Team.{Team}
 use Rattle.game.proofs.Listing.{numbers_flagged}
 use Rattle.motion.specs.Motion.{has_moved, moved_players, moved_flags, reference_unless, reference_after, references_after, references_unless}
 use Rattle.motion.proofs.check_motion.Goals as goal
+use Rattle.std.specs.Prelude.{Option}
+use Rattle.game.specs.declared.PlayerPose.{PlayerPose}
 
 moved_told : (t : Team) (flags : List Bool) → flags ≡ moved_flags t → numbers_where (λ i. get_or flags i false) ≡ moved_players t
 unfolding moved_players
@@ -21,5 +22,5 @@ references_told t flags e =
 
 pub returns : goal.returns
 returns c =
-    ap₂ (λ (m : PlayerList) (r : List PlayerReference). record { moved = m; references = r }) (c.numbers_where-moved.ensures ∙ moved_told c.args.team _ c.moved_flags-flags.ensures)
+    ap₂ (λ (m : PlayerList) (r : List (Option PlayerPose)). record { moved = m; references = r }) (c.numbers_where-moved.ensures ∙ moved_told c.args.team _ c.moved_flags-flags.ensures)
     (c.references_after-references.ensures ∙ references_told c.args.team _ c.moved_flags-flags.ensures)

@@ -1,7 +1,13 @@
 -- By what the byte is, and by what is known before it.
+use Rattle.std.proofs.Common.{◌≡◌, ℕ, Bool, sym, ◌∙◌}
 use borrow.Author.Tests.{le-leb, lt-leb}
+use Rattle.numbers.specs.Numbers.{is_digit}
 use Rattle.numbers.specs.Walk.{kind_of, with_digit}
 use Rattle.numbers.proofs.after_byte.Goals as goal
+
+-- the library's test is that of the definition
+digit : (b : ℕ) {r t : Bool} → r ≡ is_digit b → r ≡ t → is_digit b ≡ t
+digit b e t = sym e ∙ t
 
 pub returns-then-b-clause-value : goal.returns-then-b-clause-value
 unfolding kind_of
@@ -13,32 +19,32 @@ returns-then-b-clause-numbers_after c = simp c.if-b.true c.end_field.ensures.num
 
 pub returns-then-is_digit-clause-value : goal.returns-then-is_digit-clause-value
 unfolding kind_of
-returns-then-is_digit-clause-value c = simp (c.if-b.false, c.if-is_digit.true, c.in-Closed.is, c.in-Read.is)
+returns-then-is_digit-clause-value c = simp (c.if-b.false, digit c.args.b c.is_ascii_digit-is_digit.ensures.value c.if-is_digit.true, c.in-Closed.is, c.in-Ok.is)
 
 pub returns-then-w-gt4294967295-clause-value : goal.returns-then-w-gt4294967295-clause-value
 unfolding kind_of with_digit
-returns-then-w-gt4294967295-clause-value c = simp (c.if-b.false, c.if-is_digit-2.true, c.in-Open.is, lt-leb _ _ c.if-w-gt4294967295.true)
+returns-then-w-gt4294967295-clause-value c = simp (c.if-b.false, digit c.args.b c.is_ascii_digit-is_digit.ensures.value c.if-is_digit-2.true, c.in-Open.is, lt-leb _ _ c.if-w-gt4294967295.true)
 
 pub returns-then-w-gt4294967295-clause-numbers_after : goal.returns-then-w-gt4294967295-clause-numbers_after
 unfolding kind_of
-returns-then-w-gt4294967295-clause-numbers_after c = simp (c.if-b.false, c.if-is_digit-2.true)
+returns-then-w-gt4294967295-clause-numbers_after c = simp (c.if-b.false, digit c.args.b c.is_ascii_digit-is_digit.ensures.value c.if-is_digit-2.true)
 
 pub returns-then-is_digit-2-clause-value : goal.returns-then-is_digit-2-clause-value
 unfolding kind_of with_digit
-returns-then-is_digit-2-clause-value c = simp (c.if-b.false, c.if-is_digit-2.true, c.in-Open.is, le-leb _ _ c.if-w-gt4294967295.false)
+returns-then-is_digit-2-clause-value c = simp (c.if-b.false, digit c.args.b c.is_ascii_digit-is_digit.ensures.value c.if-is_digit-2.true, c.in-Open.is, le-leb _ _ c.if-w-gt4294967295.false)
 
 pub returns-then-is_digit-2-clause-numbers_after : goal.returns-then-is_digit-2-clause-numbers_after
 unfolding kind_of
-returns-then-is_digit-2-clause-numbers_after c = simp (c.if-b.false, c.if-is_digit-2.true)
+returns-then-is_digit-2-clause-numbers_after c = simp (c.if-b.false, digit c.args.b c.is_ascii_digit-is_digit.ensures.value c.if-is_digit-2.true)
 
 pub returns-else-is_digit-clause-value : goal.returns-else-is_digit-clause-value
 unfolding kind_of
-returns-else-is_digit-clause-value c = simp (c.if-b.false, c.if-is_digit.false, c.in-Closed.is, c.in-Read.is)
+returns-else-is_digit-clause-value c = simp (c.if-b.false, digit c.args.b c.is_ascii_digit-is_digit.ensures.value c.if-is_digit.false, c.in-Closed.is, c.in-Ok.is)
 
 pub returns-else-is_digit-2-clause-value : goal.returns-else-is_digit-2-clause-value
 unfolding kind_of
-returns-else-is_digit-2-clause-value c = simp (c.if-b.false, c.if-is_digit-2.false, c.in-Open.is)
+returns-else-is_digit-2-clause-value c = simp (c.if-b.false, digit c.args.b c.is_ascii_digit-is_digit.ensures.value c.if-is_digit-2.false, c.in-Open.is)
 
 pub returns-else-is_digit-2-clause-numbers_after : goal.returns-else-is_digit-2-clause-numbers_after
 unfolding kind_of
-returns-else-is_digit-2-clause-numbers_after c = simp (c.if-b.false, c.if-is_digit-2.false)
+returns-else-is_digit-2-clause-numbers_after c = simp (c.if-b.false, digit c.args.b c.is_ascii_digit-is_digit.ensures.value c.if-is_digit-2.false)

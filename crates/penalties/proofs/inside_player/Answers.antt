@@ -1,16 +1,18 @@
-use Rattle.std.proofs.Common.{◌≡◌, sym, ap, ◌∙◌, Bool, false, ◌&&◌}
+use Rattle.std.proofs.Common.{rules, ◌≡◌, refl, sym, ap, ◌∙◌, Bool, false, ◌&&◌}
+use Rattle.std.specs.Prelude.{Option, None, Some, MatchOption}
 use mathlib.Core.Bool.{and-false}
-use Rattle.game.specs.declared.MaybeMargins.{MaybeMargins}
-use Rattle.game.specs.declared.MaybeMargins.TheVariants.{NoMargins}
+use Rattle.game.specs.declared.Margins.{Margins}
 use Rattle.game.specs.declared.Player.{Player}
 use Rattle.excess.specs.Excess.{is_in_goal_area}
 use Rattle.excess.proofs.ExcessKeys.{absent}
 use Rattle.remembered.specs.declared.Remembered.{Remembered}
 use Rattle.penalties.proofs.inside_player.Goals as goal
-use Rattle.penalties.proofs.inside_player.Goals.{in-NoMargins, in-Known}
 
-nowhere : (p : Player) (m : MaybeMargins) (unpenalized inside : Bool) → m ≡ NoMargins → inside ≡ false → (unpenalized && inside) ≡ is_in_goal_area p m
-nowhere p m unpenalized inside e i = ap (λ (b : Bool). unpenalized && b) i ∙ and-false unpenalized ∙ sym (absent p m e)
+-- by whether the margins are there, where `post` is what the test of them gives
+by_margins : (p : Player) (m : Option Margins) (unpenalized inside : Bool) (post : Margins → Type 0) →
+    MatchOption m (inside ≡ false) post → ((x : Margins) → post x → (unpenalized && inside) ≡ is_in_goal_area p (Some x)) → (unpenalized && inside) ≡ is_in_goal_area p m
+by_margins p None unpenalized inside post h seen = ap (λ (b : Bool). unpenalized && b) h ∙ and-false unpenalized ∙ sym (absent p None refl)
+by_margins p (Some x) unpenalized inside post h seen = seen x h
 
 pub returns : goal.returns
 unfolding is_in_goal_area
@@ -24,4 +26,4 @@ returns c =
       present = c.args.r.present;
     }
     in
-    ap made (elim c.match-margins.branch [ in-NoMargins w ↦ nowhere c.args.player c.args.margins _ _ w.in-NoMargins.is w.inside-is | in-Known w ↦ simp (w.in-Known.is, w.inside-is, c.is_unpenalized-unpenalized.ensures) ])
+    ap made (by_margins c.args.player c.args.margins _ _ _ c.is_some_and-inside.ensures (λ x h. search rules))

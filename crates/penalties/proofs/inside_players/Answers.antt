@@ -4,8 +4,8 @@ use Rattle.penalties.specs.Penalties.{inside_players}
 use Rattle.penalties.proofs.inside_players.Goals as goal
 
 pub loop-i-preserved : goal.loop-i-preserved
-loop-i-preserved c = (search rules, turn _ _ _ _ _ (search rules) c.loop-i.invariant.1 c.inside_player.ensures)
+loop-i-preserved c = turn _ _ _ _ _ (search rules) c.loop-i.invariant c.inside_player.ensures
 
 pub returns : goal.returns
 unfolding inside_players
-returns c = done _ _ _ _ 20 (search rules) c.loop-i.invariant.0 c.loop-i-test.false c.loop-i.invariant.1
+returns c = done _ _ _ _ 20 (search rules) c.loop-i.auto.i-end c.loop-i-test.false c.loop-i.invariant

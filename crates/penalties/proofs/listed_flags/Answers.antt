@@ -16,7 +16,7 @@ pub returns-then-list-eq0 : goal.returns-then-list-eq0
 returns-then-list-eq0 c = table_same 20 (λ _. false) (λ k. is_listed c.args.list (number_at k)) (λ k _. sym (none_listed c.args.list (number_at k) c.if-list-eq0.true))
 
 pub loop-i-preserved : goal.loop-i-preserved
-loop-i-preserved c = (search rules, turn _ _ _ _ _ (search rules) c.loop-i.invariant.1 c.is_listed.ensures)
+loop-i-preserved c = turn _ _ _ _ _ (search rules) c.loop-i.invariant c.is_listed.ensures
 
 pub returns : goal.returns
-returns c = done _ _ _ _ 20 (search rules) c.loop-i.invariant.0 c.loop-i-test.false c.loop-i.invariant.1
+returns c = done _ _ _ _ 20 (search rules) c.loop-i.auto.i-end c.loop-i-test.false c.loop-i.invariant

@@ -3,13 +3,13 @@ use Rattle.std.proofs.Common.{◌≡◌, Bool, true, false, refl, sym, ap, ◌�
 use Prim.Native.Nat.{Ordering}
 use Rattle.floats.specs.Compare.{order}
 use Rattle.floats.specs.Leaves.{total_order}
-use Rattle.floats.specs.declared.Order.{Order}
-use Rattle.floats.specs.declared.Order.TheVariants.{Less, Equal, Greater}
+use Rattle.std.specs.declared.cmp.Ordering as Std
+use Rattle.std.specs.declared.cmp.Ordering.TheVariants.{Less, Equal, Greater}
 use Rattle.penalty.specs.Penalty.{not_below}
 use Rattle.penalty.specs.Walk.{considered}
 use Rattle.penalty.proofs.considered.Goals as goal
 
-abbrev at_least : Order → Bool
+abbrev at_least : Std.Ordering → Bool
 at_least Less = false
 at_least Equal = true
 at_least Greater = true
@@ -20,7 +20,7 @@ is_at_least Ordering.lt = refl
 is_at_least Ordering.eq = refl
 is_at_least Ordering.gt = refl
 
-told : (o : Ordering) (r e : Order) → r ≡ order o → r ≡ e → not_below o ≡ at_least e
+told : (o : Ordering) (r e : Std.Ordering) → r ≡ order o → r ≡ e → not_below o ≡ at_least e
 told o r e p q = is_at_least o ∙ ap at_least (sym p ∙ q)
 
 pub returns-in-Less : goal.returns-in-Less

@@ -12,8 +12,8 @@ returns-then-xs-ys c =
     let a = c.args in
     place_none a.game.sides a.field a.distance a.home a.away a.xs.now a.ys.now a.side a.number c.if-xs-ys.true
 
-pub returns-in-Absent : goal.returns-in-Absent
-returns-in-Absent c =
+pub returns-in-None : goal.returns-in-None
+returns-in-None c =
     let a = c.args in
     let q = c.match-side.player in
     let found : q ≡ player_numbered (team_of_side a.home a.away a.side) a.number =
@@ -21,7 +21,7 @@ returns-in-Absent c =
       | in-Home w ↦ player_told a.home a.away a.home a.side Home a.number q w.in-Home.is refl (w.player-is ∙ w.player_numbered-player.ensures)
       | in-Away w ↦ player_told a.home a.away a.away a.side Away a.number q w.in-Away.is refl (w.player-is ∙ w.player_numbered-player-in-Away.ensures)
     ] in
-    place_absent a.game.sides a.field a.distance a.home a.away a.xs.now a.ys.now a.side a.number q c.if-xs-ys.false found c.in-Absent.is
+    place_absent a.game.sides a.field a.distance a.home a.away a.xs.now a.ys.now a.side a.number q c.if-xs-ys.false found c.in-None.is
 
 pub returns-after-y : goal.returns-after-y
 returns-after-y c =
@@ -37,4 +37,4 @@ returns-after-y c =
     elim c.if-y.branch [ then-y w ↦ heading_told y c.if-y.theta true w.if-y.true w.theta-is | else-y w ↦ heading_told y c.if-y.theta false w.if-y.false w.theta-is ] in
     place_given a.game.sides a.field a.distance a.home a.away a.xs.now a.ys.now a.side a.number q c.if-xs-ys.false found
     _ c.side_to_sign-sign.result y c.if-y.theta c.team_place-team_x.result
-    c.in-Present.is c.side_to_sign-sign.ensures c.copysign-y.ensures headed c.team_place-team_x.ensures
+    c.in-Some.is c.side_to_sign-sign.ensures c.copysign-y.ensures headed c.team_place-team_x.ensures

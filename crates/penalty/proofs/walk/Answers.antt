@@ -8,7 +8,7 @@ use Rattle.penalty.proofs.Turns.{reached_stays}
 use Rattle.penalty.proofs.walk.Goals as goal
 
 pub loop-j-init : goal.loop-j-init
-loop-j-init c = (search rules, fold_none _ _)
+loop-j-init c = fold_none _ _
 
 pub returns-then-choice : goal.returns-then-choice
 returns-then-choice c =
@@ -16,11 +16,11 @@ returns-then-choice c =
     let a = c.args in
     let spots = occupied a.home a.away a.side a.number a.xs.now a.ys.now in
     let f = after_try a.search spots in
-    let here : (fold_to at.j f a.start).reached ≡ true = ap (λ (z : Choice). z.reached) (sym at.invariant.1) ∙ c.if-choice.true in
-    at.invariant.1 ∙ sym (fold_quiet f a.start at.j a.tries at.invariant.0 (λ k l h. reached_stays a.search spots k (fold_to at.j f a.start) here))
+    let here : (fold_to at.j f a.start).reached ≡ true = ap (λ (z : Choice). z.reached) (sym at.invariant) ∙ c.if-choice.true in
+    at.invariant ∙ sym (fold_quiet f a.start at.j a.tries at.auto.j-end (λ k l h. reached_stays a.search spots k (fold_to at.j f a.start) here))
 
 pub loop-j-preserved : goal.loop-j-preserved
-loop-j-preserved c = (search rules, fold_turn _ _ _ _ _ c.loop-j.invariant.1 c.after_try-choice.ensures)
+loop-j-preserved c = fold_turn _ _ _ _ _ c.loop-j.invariant c.after_try-choice.ensures
 
 pub returns : goal.returns
-returns c = fold_done _ _ _ _ _ c.loop-j.invariant.0 c.loop-j-test.false c.loop-j.invariant.1
+returns c = fold_done _ _ _ _ _ c.loop-j.auto.j-end c.loop-j-test.false c.loop-j.invariant

@@ -1,12 +1,9 @@
 -- The choice so far is that of the tries passed; once the distance is reached, the others change nothing.
-use Rattle.std.proofs.Common.{◌-◌, ◌≡◌, ◌≤◌}
+use Rattle.std.proofs.Common.{◌-◌, ◌≡◌}
 use Rattle.lists.specs.Fold.{fold_to}
 use Rattle.clearance.specs.Clearance.{occupied}
 use Rattle.penalty.specs.Walk.{after_try}
 use Rattle.penalty.proofs.walk.Given as goal
 
 abbrev pub invariant-loop-j : goal.invariant-loop-j
-invariant-loop-j l = (l.j ≤ l.tries) × (l.choice ≡ fold_to l.j (after_try l.search (occupied l.home l.away l.side l.number l.xs l.ys)) l.initial.choice)
-
-abbrev pub decreases-loop-j : goal.decreases-loop-j
-decreases-loop-j l = l.tries - l.j
+invariant-loop-j l = l.choice ≡ fold_to l.j (after_try l.search (occupied l.home l.away l.side l.number l.xs l.ys)) l.initial.choice

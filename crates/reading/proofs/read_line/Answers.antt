@@ -1,16 +1,14 @@
 -- By the refusal, and by the line.
-use Rattle.std.proofs.Common.{sym, ap, ◌∙◌}
-use Rattle.reading.proofs.Answers.{numbers_refused, numbers_zero, line_answer, numbers_line}
+use Rattle.std.proofs.Common.{ap, Ok, ◌∙◌}
+use Rattle.std.proofs.lemmas.Result.{err_from_is_err_and}
+use Rattle.reading.proofs.Answers.{not_refused, numbers_refused, numbers_zero, numbers_line}
 use Rattle.reading.proofs.read_line.Goals as goal
 
-pub returns-then-n-ne0 : goal.returns-then-n-ne0
-returns-then-n-ne0 c = numbers_refused c.args.text.now _ _ c.refusal-n.ensures c.if-n-ne0.true
+pub returns-in_err-refusal : goal.returns-in_err-refusal
+returns-in_err-refusal c = let p = err_from_is_err_and c.from_residual.result c.from_residual.ensures.1 in rw (p.1, p.2) (numbers_refused c.args.text.now c.args.line tt _ c.in_err-refusal.ensures)
 
 pub returns-then-is_header : goal.returns-then-is_header
-returns-then-is_header c = numbers_zero c.args.text.now _ (sym c.refusal-n.ensures ∙ c.if-n-ne0.false) c.if-is_header.true
+returns-then-is_header c = numbers_zero c.args.text.now _ (not_refused _ tt _ c.in_ok-refusal.ensures).0 c.if-is_header.true
 
-pub returns-in-NoLine : goal.returns-in-NoLine
-returns-in-NoLine c = ap line_answer c.in-NoLine.ensures ∙ numbers_line c.args.text.now _ (sym c.refusal-n.ensures ∙ c.if-n-ne0.false) c.if-is_header.false
-
-pub returns-in-Line : goal.returns-in-Line
-returns-in-Line c = ap line_answer c.in-Line.ensures ∙ numbers_line c.args.text.now _ (sym c.refusal-n.ensures ∙ c.if-n-ne0.false) c.if-is_header.false
+pub returns : goal.returns
+returns c = ap Ok c.line_at.ensures ∙ numbers_line c.args.text.now _ (not_refused _ tt _ c.in_ok-refusal.ensures).0 c.if-is_header.false

@@ -13,11 +13,11 @@ unfolding record_at
 returns-then-list-at-lt45 c = simp (lt-ltb _ _ c.if-list-at-lt45.true)
 
 pub returns-in_default : goal.returns-in_default
-returns-in_default c = at_unread _ _ c.read_numbers-reading.result c.if-list-at-lt45.false c.read_numbers-reading.ensures.value c.in_default.not-Read
+returns-in_default c = at_unread _ _ c.read_numbers.result c.if-list-at-lt45.false c.read_numbers.ensures.value c.in_default.not-Ok
 
 pub returns-then-n-list : goal.returns-then-n-list
 returns-then-n-list c =
-    at_head _ _ _ c.if-list-at-lt45.false c.read_numbers-reading.ensures.value _ c.in-Read.is _ _ c.if-n-list.true c.read_numbers-reading.ensures.numbers_after c.framed.ensures
+    at_head _ _ _ c.if-list-at-lt45.false c.read_numbers.ensures.value _ c.in-Ok.is _ _ c.if-n-list.true c.read_numbers.ensures.numbers_after c.framed.ensures
 
 pub returns : goal.returns
-returns c = at_no_head _ _ _ c.if-list-at-lt45.false c.read_numbers-reading.ensures.value _ c.in-Read.is c.if-n-list.false
+returns c = at_no_head _ _ _ c.if-list-at-lt45.false c.read_numbers.ensures.value _ c.in-Ok.is c.if-n-list.false

@@ -1,8 +1,8 @@
-use Rattle.std.proofs.Common.{rules, Bool, ◌&&◌, leb, ◌<◌, ◌≤◌, length, ap, sym, subst, ◌∙◌, arith}
+use Rattle.std.proofs.Common.{rules, Result, ℕ, Bool, ◌&&◌, leb, ◌<◌, ◌≤◌, length, ap, sym, subst, ◌∙◌, arith}
 use mir.Syntax.{w64}
 use mir.ValLaws.{to_z-of_z}
 use Rattle.sheet.specs.Sheet.{bytes_in}
-use Rattle.sheet.specs.declared.text.SheetAnswer.{SheetAnswer}
+use Rattle.refusal.specs.declared.Refusal.{Refusal}
 use Rattle.coach.proofs.Answers.{sentence_room}
 use Rattle.referee_c.proofs.EntryLaws.{a_player, no_player}
 use Rattle.referee_c.proofs.referee_coach.Goals as goal
@@ -10,7 +10,7 @@ use Rattle.referee_c.proofs.referee_coach.Goals as goal
 pub answer_number-requires : goal.answer_number-requires
 answer_number-requires c =
     let call = c.write_sentence-answer in
-    let told : bytes_in call.result ≤ length c.args.text.now = subst (λ (a : SheetAnswer). bytes_in a ≤ length c.args.text.now) (sym call.ensures.value) (sentence_room _ _ _ _ _ _) in
+    let told : bytes_in call.result ≤ length c.args.text.now = subst (λ (a : Result ℕ Refusal). bytes_in a ≤ length c.args.text.now) (sym call.ensures.value) (sentence_room _ _ _ _ _ _) in
     let room : length c.args.text.now < 9223372036854775808 = search rules in
     omega arith
 

@@ -6,10 +6,10 @@ use Rattle.referee_c.proofs.Signed.{count_fits, count_read}
 use Rattle.referee_c.proofs.referee_read_sheet.Goals as goal
 
 pub overflow_cast-result : goal.overflow_cast-result
-overflow_cast-result c = count_fits _ (omega (arith, few_lines c.args.text.now _ (sym c.in-Lines.is ∙ c.read_sheet-read.ensures)))
+overflow_cast-result c = count_fits _ (omega (arith, few_lines c.args.text.now _ (sym c.in-Ok.is ∙ c.read_sheet-read.ensures)))
 
-pub returns-in-Lines : goal.returns-in-Lines
+pub returns-in-Ok : goal.returns-in-Ok
 unfolding read_number
-returns-in-Lines c =
-    let read = sym c.in-Lines.is ∙ c.read_sheet-read.ensures in
+returns-in-Ok c =
+    let read = sym c.in-Ok.is ∙ c.read_sheet-read.ensures in
     count_read _ (omega (arith, few_lines c.args.text.now _ read)) ∙ ap lines_number read

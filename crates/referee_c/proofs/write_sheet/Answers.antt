@@ -1,8 +1,8 @@
-use Rattle.std.proofs.Common.{rules, ◌<◌, ◌≤◌, length, sym, subst, ◌∙◌, arith}
+use Rattle.std.proofs.Common.{rules, Result, ℕ, ◌<◌, ◌≤◌, length, sym, subst, ◌∙◌, arith}
 use mir.Syntax.{w64}
 use mir.ValLaws.{to_z-of_z}
 use Rattle.sheet.specs.Sheet.{bytes_in}
-use Rattle.sheet.specs.declared.text.SheetAnswer.{SheetAnswer}
+use Rattle.refusal.specs.declared.Refusal.{Refusal}
 use Rattle.call.proofs.Answers.{sheet_room}
 use Rattle.referee_c.proofs.EntryLaws.{a_situation, no_situation}
 use Rattle.referee_c.proofs.write_sheet.Goals as goal
@@ -10,7 +10,7 @@ use Rattle.referee_c.proofs.write_sheet.Goals as goal
 pub answer_number-requires : goal.answer_number-requires
 answer_number-requires c =
     let call = c.write_sheet-answer in
-    let told : bytes_in call.result ≤ length c.args.sheet.now = subst (λ (a : SheetAnswer). bytes_in a ≤ length c.args.sheet.now) (sym call.ensures.value) (sheet_room _ _ _ _ _) in
+    let told : bytes_in call.result ≤ length c.args.sheet.now = subst (λ (a : Result ℕ Refusal). bytes_in a ≤ length c.args.sheet.now) (sym call.ensures.value) (sheet_room _ _ _ _ _) in
     let room : length c.args.sheet.now < 9223372036854775808 = search rules in
     omega arith
 

@@ -1,14 +1,14 @@
-use Rattle.std.proofs.Common.{rules, Bool, ◌&&◌, ap}
+use Rattle.std.proofs.Common.{Bool, ◌&&◌, ap}
 use Rattle.lists.proofs.Every.{every_none, every_turn, every_done}
 use Rattle.refusals.specs.Refusals.{team_fits}
 use Rattle.refusals.proofs.team_fits.Goals as goal
 
 pub loop-i-init : goal.loop-i-init
-loop-i-init c = (search rules, every_none _)
+loop-i-init c = every_none _
 
 pub loop-i-preserved : goal.loop-i-preserved
-loop-i-preserved c = (search rules, every_turn _ _ _ _ c.loop-i.invariant.1 (ap (λ (b : Bool). c.loop-i.ok && b) c.player_fits-ok.ensures))
+loop-i-preserved c = every_turn _ _ _ _ c.loop-i.invariant (ap (λ (b : Bool). c.loop-i.ok && b) c.player_fits-ok.ensures)
 
 pub returns : goal.returns
 unfolding team_fits
-returns c = every_done _ _ _ _ c.loop-i.invariant.0 c.loop-i-test.false c.loop-i.invariant.1
+returns c = every_done _ _ _ _ c.loop-i.auto.i-end c.loop-i-test.false c.loop-i.invariant

@@ -1,12 +1,9 @@
 -- The loop's answer so far is that of the places passed.
-use Rattle.std.proofs.Common.{◌≡◌, ◌-◌, ◌≤◌, get_or}
+use Rattle.std.proofs.Common.{◌≡◌, get_or}
 use Rattle.lists.specs.Every.{every_to}
 use Rattle.game.specs.Players.{nobody}
 use Rattle.refusals.specs.Refusals.{player_fits}
 use Rattle.refusals.proofs.team_fits.Given as goal
 
 abbrev pub invariant-loop-i : goal.invariant-loop-i
-invariant-loop-i l = (l.i ≤ 20) × (l.ok ≡ every_to l.i (λ k. player_fits (get_or l.players k nobody)))
-
-abbrev pub decreases-loop-i : goal.decreases-loop-i
-decreases-loop-i l = 20 - l.i
+invariant-loop-i l = l.ok ≡ every_to l.i (λ k. player_fits (get_or l.players k nobody))

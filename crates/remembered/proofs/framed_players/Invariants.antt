@@ -1,14 +1,9 @@
 -- The loop fills the table from the front.
-use Rattle.std.proofs.Common.{◌≡◌, ◌-◌, ◌≤◌, get_or}
+use Rattle.std.proofs.Common.{◌≡◌, get_or}
 use Rattle.lists.specs.Table.{filled}
 use Rattle.game.specs.Players.{nobody, margins_at}
 use Rattle.remembered.specs.Remembered.{remembered_at, framed_player}
 use Rattle.remembered.proofs.framed_players.Given as goal
 
 abbrev pub invariant-loop-i : goal.invariant-loop-i
-invariant-loop-i l =
-    (l.i ≤ 20)
-    × (l.out ≡ filled (λ k. framed_player l.begun l.active l.game l.field l.ball l.side (get_or l.players k nobody) (margins_at l.margins k) (remembered_at l.remembered k)) l.initial.out l.i)
-
-abbrev pub decreases-loop-i : goal.decreases-loop-i
-decreases-loop-i l = 20 - l.i
+invariant-loop-i l = l.out ≡ filled (λ k. framed_player l.begun l.active l.game l.field l.ball l.side (get_or l.players k nobody) (margins_at l.margins k) (remembered_at l.remembered k)) l.initial.out l.i

@@ -6,10 +6,10 @@ use Rattle.decision.specs.Decision.{is_leaving, leaving_players}
 use Rattle.decision.proofs.judges.leaving_players.Goals as goal
 
 pub loop-i-preserved : goal.loop-i-preserved
-loop-i-preserved c = (search rules, turn _ _ _ _ _ (search rules) c.loop-i.invariant.1 c.is_leaving_the_field.ensures)
+loop-i-preserved c = turn _ _ _ _ _ (search rules) c.loop-i.invariant c.is_leaving_the_field.ensures
 
 pub returns : goal.returns
 unfolding leaving_players
 returns c =
     c.numbers_where.ensures
-    ∙ numbers_flagged _ (λ i. is_leaving (player_at c.args.team i) c.args.field) (done _ _ _ _ 20 refl c.loop-i.invariant.0 c.loop-i-test.false c.loop-i.invariant.1)
+    ∙ numbers_flagged _ (λ i. is_leaving (player_at c.args.team i) c.args.field) (done _ _ _ _ 20 refl c.loop-i.auto.i-end c.loop-i-test.false c.loop-i.invariant)

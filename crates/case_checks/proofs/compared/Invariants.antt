@@ -1,5 +1,0 @@
--- The measure is how many records are left to read.
-use Rattle.case_checks.proofs.compared.Given as goal
-
-abbrev pub decreases-loop-left : goal.decreases-loop-left
-decreases-loop-left g l = l.left
