@@ -12,7 +12,7 @@ use Rattle.game.specs.declared.PlayerPose.{PlayerPose}
 use Rattle.game.specs.declared.SetPlay.{SetPlay}
 use Rattle.game.specs.declared.Side.{Side}
 use Rattle.geometry.specs.Geometry.{side_to_sign}
-use Rattle.geometry.specs.Turned.{signed, changed_pose, changed_seen, changed_player, changed_ball, changed_game}
+use Rattle.geometry.specs.Turned.{signed, changed_pose, changed_maybe_pose, changed_player, changed_ball, changed_game}
 use Rattle.geometry.proofs.Turned.{team_changed, abs_changed, distance_changed, sign_changed}
 use Rattle.conditions.specs.declared.Condition.{Condition}
 use Rattle.conditions.specs.declared.Condition.TheVariants.{NoCondition}
@@ -25,7 +25,7 @@ unfolding region_condition
 region_changed a b play f ball s p m =
     cc (team_changed a s p.x, team_changed a s ball.x, abs_changed b p.y, abs_changed b ball.y, distance_changed a b p.x p.y ball.x ball.y)
 
-seen_region_changed : (a b : Bool) (p : Option PlayerPose) (m : Option Margins) (g : Game) (f : FieldDimensions) (ball : Ball) (side : Side) → seen_region_condition (changed_seen a b p) m (changed_game a g) f (changed_ball a b ball) side ≡ seen_region_condition p m g f ball side
+seen_region_changed : (a b : Bool) (p : Option PlayerPose) (m : Option Margins) (g : Game) (f : FieldDimensions) (ball : Ball) (side : Side) → seen_region_condition (changed_maybe_pose a b p) m (changed_game a g) f (changed_ball a b ball) side ≡ seen_region_condition p m g f ball side
 seen_region_changed a b None m g f ball side = refl
 seen_region_changed a b (Some p) None g f ball side = refl
 seen_region_changed a b (Some p) (Some m) g f ball side =

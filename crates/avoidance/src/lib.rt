@@ -21,26 +21,15 @@ fn has_avoidance_region(set_play: SetPlay) -> bool
     )
 }
 
-// Whether a set play is a goal kick.
-fn is_goal_kick(set_play: SetPlay) -> bool
-    ensures { result ≡ Spec.is_goal_kick set_play }
-{
-    set_play == SetPlay::GoalKick
-}
-
 // Whether the avoidance region of a free kick (goal kicks, corner kicks and throw-ins too) is in effect.
 #[tactic(auto, unfolding(crate::specs::Avoidance::is_avoidance_region_active))]
 pub fn is_avoidance_region_active(game: Game) -> bool
     ensures { result ≡ Spec.is_avoidance_region_active game }
 {
-    let phase = game.phase;
-    let state = game.state;
-    let kicking_side = game.kicking_side;
-    let set_play = game.set_play;
-    let shootout = game::is_shootout(phase);
-    let playing = game::is_playing(state);
-    let kicked = kicking_side.is_some();
-    let region = has_avoidance_region(set_play);
+    let shootout = game::is_shootout(game.phase);
+    let playing = game::is_playing(game.state);
+    let kicked = game.kicking_side.is_some();
+    let region = has_avoidance_region(game.set_play);
     !shootout & playing & !game.stopped & kicked & region
 }
 
@@ -63,7 +52,7 @@ fn region_condition(
     if distance < field.center_circle_radius + pose.radius {
         return Condition::NearBall;
     }
-    let goal_kick = is_goal_kick(set_play);
+    let goal_kick = set_play == SetPlay::GoalKick;
     let ball_team_x = sign * ball.x;
     let ball_y = floats::abs(ball.y);
     let ball_in_area = (ball_team_x <= -field.length * 0.5 + field.penalty_area_length)
@@ -89,26 +78,19 @@ pub fn avoidance_condition(
 ) -> Condition
     ensures { result ≡ Spec.avoidance_condition game field ball side player margins }
 {
-    let penalty = player.penalty;
-    let pose = player.pose;
-    let sides = game.sides;
-    let set_play = game.set_play;
     let kicking_side = game.kicking_side;
     let active = is_avoidance_region_active(game);
     let other = game::opponent(side);
     let defending = game::is_side(kicking_side, other);
-    let unpenalized = game::is_unpenalized(penalty);
+    let unpenalized = game::is_unpenalized(player.penalty);
     if !(active & defending & unpenalized) {
         return Condition::NoCondition;
     }
-    let Some(p) = pose else {
+    let (Some(p), Some(m)) = (player.pose, margins) else {
         return Condition::NoCondition;
     };
-    let Some(m) = margins else {
-        return Condition::NoCondition;
-    };
-    let sign = geometry::side_to_sign(side, sides);
-    region_condition(set_play, field, ball, sign, p, m)
+    let sign = geometry::side_to_sign(side, game.sides);
+    region_condition(game.set_play, field, ball, sign, p, m)
 }
 
 // Whether a player of the defending team is in the avoidance region of a free kick.

@@ -34,18 +34,18 @@ is_penalty_shot Indirect = false
 is_penalty_shot Direct = false
 is_penalty_shot PenaltyShot = true
 
--- a team may not score an own goal directly from its restart, a penalty shot aside: the other side has a corner kick
+-- a team may not score an own goal directly from its restart: the other side has a corner kick. None is a goal that counts, at a penalty shot
 abbrev pub judge_own_goal : RestartKind → Side → Option BallJudgment
 judge_own_goal kind scoring = cond (is_penalty_shot kind) None (Some (CornerKick scoring))
 
--- Once another player has touched the ball, every goal counts. Before, an own goal and a goal of a team that may not score do not.
+-- None is a goal that counts. Once another player has touched the ball, every goal counts. Before, an own goal and a goal of a team that may not score do not.
 unfoldable pub judge_restart_goal : Restart → Side → ℕ → Option BallJudgment
 judge_restart_goal r scoring players =
     cond r.other_touch None
     (cond (same_side r.side (opponent scoring)) (judge_own_goal r.kind scoring)
     (cond (may_score r.kind r players) None (Some (GoalKick (opponent scoring)))))
 
--- a goal for a side, where the Bool tells whether invalid goals are judged at all
+-- a goal for a side, where the Bool tells whether invalid goals are judged at all; None is a goal that counts
 abbrev pub judge_goal : Bool → Option Restart → Side → ℕ → Option BallJudgment
 judge_goal false r scoring players = None
 judge_goal true None scoring players = None

@@ -43,27 +43,21 @@ pub fn judge_goal(
     if !invalid_goals_judged {
         return None;
     }
-    match restart {
-        None => None,
-        Some(r) => {
-            let kind = r.kind;
-            let restart_side = r.side;
-            if r.other_touch {
-                return None;
-            }
-            let defending_side = game::opponent(scoring_side);
-            if game::same_side(restart_side, defending_side) {
-                if is_penalty_shot(kind) {
-                    return None;
-                }
-                return Some(BallJudgment::CornerKick(scoring_side));
-            }
-            if may_score(r, players_of_scoring_side) {
-                return None;
-            }
-            Some(BallJudgment::GoalKick(defending_side))
-        }
+    let r = restart?;
+    if r.other_touch {
+        return None;
     }
+    let defending_side = game::opponent(scoring_side);
+    if game::same_side(r.side, defending_side) {
+        if is_penalty_shot(r.kind) {
+            return None;
+        }
+        return Some(BallJudgment::CornerKick(scoring_side));
+    }
+    if may_score(r, players_of_scoring_side) {
+        return None;
+    }
+    Some(BallJudgment::GoalKick(defending_side))
 }
 
 // Whether the whole ball is past a goal line.
@@ -105,18 +99,7 @@ fn defender_of(sides: SideMapping, left: bool) -> Side
 fn is_shot_taken(restart: Option<Restart>) -> bool
     ensures { result ≡ Spec.shot_taken restart }
 {
-    match restart {
-        None => false,
-        Some(r) => {
-            let kind = r.kind;
-            let kicker = r.kicker;
-            let penalty_shot = is_penalty_shot(kind);
-            match kicker {
-                None => false,
-                Some(_) => penalty_shot,
-            }
-        }
-    }
+    restart.is_some_and(|r| is_penalty_shot(r.kind) & r.kicker.is_some())
 }
 
 // The judgment in a penalty shoot-out, where there is a kicking side: a goal, or the end of the shot once the ball is out or has come to rest.
@@ -131,23 +114,21 @@ fn judge_shootout(
 ) -> BallJudgment
     ensures { result ≡ Spec.judge_shootout kicking_side sides field ball restart ball_rested }
 {
-    match kicking_side {
-        None => BallJudgment::NoJudgment,
-        Some(side) => {
-            let sign = geometry::side_to_sign(side, sides);
-            let past_goal_line = is_past_goal_line(field, ball);
-            let past_touchline = is_past_touchline(field, ball);
-            let in_goal = is_in_goal(field, ball);
-            let taken = is_shot_taken(restart);
-            if past_goal_line & (sign * ball.x > 0.0) & in_goal {
-                return BallJudgment::Goal(side);
-            }
-            if past_goal_line | past_touchline | (taken & ball_rested) {
-                return BallJudgment::EndOfPenaltyShot;
-            }
-            BallJudgment::NoJudgment
-        }
+    let Some(side) = kicking_side else {
+        return BallJudgment::NoJudgment;
+    };
+    let sign = geometry::side_to_sign(side, sides);
+    let past_goal_line = is_past_goal_line(field, ball);
+    let past_touchline = is_past_touchline(field, ball);
+    let in_goal = is_in_goal(field, ball);
+    let taken = is_shot_taken(restart);
+    if past_goal_line & (sign * ball.x > 0.0) & in_goal {
+        return BallJudgment::Goal(side);
     }
+    if past_goal_line | past_touchline | (taken & ball_rested) {
+        return BallJudgment::EndOfPenaltyShot;
+    }
+    BallJudgment::NoJudgment
 }
 
 // The judgment outside a penalty shoot-out, where the side is known that defends the half in which the ball is.
@@ -176,10 +157,7 @@ fn judge_play(
                 attacking_side,
                 attacking_players,
             );
-            return match goal {
-                None => BallJudgment::Goal(attacking_side),
-                Some(judgment) => judgment,
-            };
+            return goal.unwrap_or(BallJudgment::Goal(attacking_side));
         }
         if own {
             return BallJudgment::CornerKick(attacking_side);
@@ -187,10 +165,8 @@ fn judge_play(
         return BallJudgment::GoalKick(defending_side);
     }
     if past_touchline {
-        return match last_contact {
-            None => BallJudgment::ThrowIn(defending_side),
-            Some(side) => BallJudgment::ThrowIn(game::opponent(side)),
-        };
+        let side = last_contact.map_or(defending_side, game::opponent);
+        return BallJudgment::ThrowIn(side);
     }
     BallJudgment::NoJudgment
 }
@@ -217,31 +193,24 @@ pub fn check_ball_out(
     let sides = game.sides;
     let playing = game::is_playing(state);
     let shootout = game::is_shootout(phase);
-    if playing & !game.stopped {
-        if shootout {
-            return judge_shootout(kicking_side, sides, field, ball, restart, ball_rested);
-        }
-        let defending_side = defender_of(sides, ball.x > 0.0);
-        return match defending_side {
-            Side::Home => judge_play(
-                Side::Home,
-                away_players,
-                field,
-                ball,
-                last_contact,
-                restart,
-                invalid_goals_judged,
-            ),
-            Side::Away => judge_play(
-                Side::Away,
-                home_players,
-                field,
-                ball,
-                last_contact,
-                restart,
-                invalid_goals_judged,
-            ),
-        };
+    if !playing | game.stopped {
+        return BallJudgment::NoJudgment;
     }
-    BallJudgment::NoJudgment
+    if shootout {
+        return judge_shootout(kicking_side, sides, field, ball, restart, ball_rested);
+    }
+    let defending_side = defender_of(sides, ball.x > 0.0);
+    let attacking_players = match defending_side {
+        Side::Home => away_players,
+        Side::Away => home_players,
+    };
+    judge_play(
+        defending_side,
+        attacking_players,
+        field,
+        ball,
+        last_contact,
+        restart,
+        invalid_goals_judged,
+    )
 }

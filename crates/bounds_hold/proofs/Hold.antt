@@ -22,7 +22,7 @@ use Rattle.places.proofs.Bounds.{goal_lines_in_order, posts_in_order}
 use Rattle.clearance.specs.Clearance.{occupied}
 use Rattle.penalty.specs.Penalty.{lowest_of, highest_of, team_place, pose_place, seen_place, place_for_penalty}
 use Rattle.penalty.proofs.Bounds.{CandidateSizes, bounds_in_order, lowest_most, highest_least, never_unfit, all_tried, place_meant}
-use Rattle.refusals.specs.Refusals.{is_coordinate, is_radius, pose_fits, seen_fits, team_fits, places_fit, lists_fit, poses_fit, wish_fits, refusal_of}
+use Rattle.refusals.specs.Refusals.{is_coordinate, is_radius, pose_fits, maybe_pose_fits, team_fits, places_fit, lists_fit, poses_fit, wish_fits, refusal_of}
 use Rattle.refusals.proofs.Accepted.{Accepted, accepted, field_ranges, numbered_fits, team_fits_holds, wished_fits}
 use Rattle.words.specs.Words.{pose_at, field_of, situation_of}
 use Rattle.words.proofs.Fits.{float_fits, numbered_poses}
@@ -46,7 +46,7 @@ module _ (s : Situation) (xs ys : List Float) (fit : FloatsFit s) (e : refusal_o
   wished_radius : (side : Side) (number : ℕ) (p : PlayerPose) → s.wish ≡ ForPenalty side number → (player_numbered (team_of s side) number).pose ≡ Some p → is_radius p.radius ≡ true
   wished_radius side number p w h =
       pose_radius p
-      (subst (λ (q : Option PlayerPose). seen_fits q ≡ true) h
+      (subst (λ (q : Option PlayerPose). maybe_pose_fits q ≡ true) h
       (numbered_fits (team_of s side) (team_fits_holds s xs ys a side) number (subst (λ (v : Wish). wish_fits v ≡ true) w (wished_fits s xs ys a))))
 
   candidate_sizes : (r : Float) → T (fits binary32 r) → is_radius r ≡ true → CandidateSizes s.field r s.penalty_placement_distance

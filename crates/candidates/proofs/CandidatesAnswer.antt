@@ -14,6 +14,7 @@ use Rattle.lists.specs.Gather.{flat_to}
 use Rattle.lists.specs.Put.{fronted}
 use Rattle.lists.specs.Refusals.{first_refusal}
 use Rattle.lists.proofs.Bools.{neither}
+use Rattle.refusal.specs.Refusal.{unless_refused, number_in}
 use Rattle.spacing.specs.Spacing.{places_at}
 use Rattle.tries.specs.Tries.{candidates_of, unfit, first_candidate, turns_of, walked}
 use Rattle.tries.proofs.CandidatesList.{Held, candidates_walked}
@@ -50,6 +51,16 @@ refused_5 start min max step len u = ap (λ (b : Bool). first_refusal (requireme
 by_length : (start min max step : Float) (len : ℕ) (b : Bool) → unfit start min max step ≡ false → too_long start min max step len ≡ b → refusal_of start min max step len ≡ first_refusal (requirements false b)
 unfolding refusal_of
 by_length start min max step len b u e = ap₂ (λ (a l : Bool). first_refusal (requirements a l)) u e
+
+two_back : {A : Type 0} (x : A) (bad long : Bool) → number_in (unless_refused (first_refusal (requirements bad long)) x) ≡ first_refusal (requirements bad long)
+two_back x true long = refl
+two_back x false true = refl
+two_back x false false = refl
+
+-- the number is back from the refusal
+pub number_back : {A : Type 0} (x : A) (start min max step : Float) (len : ℕ) → number_in (unless_refused (refusal_of start min max step len) x) ≡ refusal_of start min max step len
+unfolding refusal_of
+number_back x start min max step len = two_back x (unfit start min max step) (too_long start min max step len)
 
 -- ---- each float fits binary32, as every f32 does
 module _ (start min max step : Float) (f : Held start min max step) where

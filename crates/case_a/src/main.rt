@@ -3,7 +3,7 @@
 
 use call::SheetFor;
 use game::{
-    Ball, FieldDimensions, Game, Penalty, Phase, Player, PlayerPose, SetPlay, SideMapping,
+    Ball, Earlier, FieldDimensions, Game, Penalty, Phase, Player, PlayerPose, SetPlay, SideMapping,
     Situation, State, Team, Wish,
 };
 use std::io;
@@ -130,7 +130,11 @@ fn main(rt: HostRuntime) -> io::Result<()> {
     let xs = [0.0f32; 1];
     let ys = [0.0f32; 1];
     let mut text = [0u8; ROOM];
-    let answer = call::write_sheet(SheetFor::Desk, s, &xs[..0], &ys[..0], &mut text);
+    let earlier = Earlier {
+        xs: &xs[..0],
+        ys: &ys[..0],
+    };
+    let answer = call::write_sheet(SheetFor::Desk, s, earlier, &mut text);
     match answer {
         Err(_) => println!(rt; "refused"),
         Ok(n) => rt.write_all(replies::front(&text, n)),

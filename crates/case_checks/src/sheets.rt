@@ -1,6 +1,7 @@
 // What records have: a text that the program `judge` reads, or words for the library's calls.
 use call::SheetFor;
 use desk::Reply;
+use game::Earlier;
 use refusal::Refusal;
 
 // What each lent byte holds before a call; no text here has it.
@@ -17,7 +18,7 @@ const NUMBERS: usize = 568;
 // The most earlier x, and earlier y.
 const PLACES: usize = 4097;
 
-// The library's calls: for a sheet, for the desk or the display, and for a coach's line.
+// The library's calls: for a sheet, for the desk or the display, and for a coach's line. An enum and no closure, since a call also says how many numbers its input has.
 #[derive(Clone, Copy)]
 pub(crate) enum Asked {
     Desk,
@@ -26,17 +27,14 @@ pub(crate) enum Asked {
 }
 
 // What `judge` prints for a text, where the kind is at most 2, or `judge coach`, where it is at most 4, or `judge read`, where it is at most 6, or `judge display`.
+// Chosen by the kind and not handed in as a function, since `judged` needs the kind too.
 fn replied(kind: u32, text: &[u8], out: &mut [u8]) -> Reply {
-    if kind <= 2 {
-        return desk::judge(text, out);
+    match kind {
+        0..=2 => desk::judge(text, out),
+        3..=4 => desk::coach(text, out),
+        5..=6 => desk::read(text, out),
+        _ => desk::display(text, out),
     }
-    if kind <= 4 {
-        return desk::coach(text, out);
-    }
-    if kind <= 6 {
-        return desk::read(text, out);
-    }
-    desk::display(text, out)
 }
 
 // Whether this is told for the input, with so many bytes lent, where the kind is odd, or answered where it is even, and all other bytes are kept.
@@ -62,20 +60,19 @@ fn is_answer(answer: Result<usize, Refusal>, refusal: u32, size: usize) -> bool 
 }
 
 // The call for these numbers.
-fn written<'a>(
+fn written(
     asked: Asked,
     numbers: &[u32; NUMBERS],
-    xs: &'a [f32],
-    ys: &'a [f32],
+    earlier: Earlier<'_>,
     out: &mut [u8],
 ) -> Result<usize, Refusal> {
     let s = words::situation_of(numbers);
     match asked {
-        Asked::Desk => call::write_sheet(SheetFor::Desk, s, xs, ys, out),
-        Asked::Display => call::write_sheet(SheetFor::Display, s, xs, ys, out),
+        Asked::Desk => call::write_sheet(SheetFor::Desk, s, earlier, out),
+        Asked::Display => call::write_sheet(SheetFor::Display, s, earlier, out),
         Asked::Sentence => {
             let side = words::side_of(numbers[566]);
-            call::write_sentence(s, xs, ys, side, numbers[567], out)
+            call::write_sentence(s, earlier, side, numbers[567], out)
         }
     }
 }
@@ -102,7 +99,11 @@ fn call(
     let nx = (numbers[563] as usize).min(PLACES);
     let ny = (numbers[564] as usize).min(PLACES);
     if lent <= bytes.len() {
-        return Some(written(asked, numbers, &xs[..nx], &ys[..ny], &mut bytes[..lent]));
+        let earlier = Earlier {
+            xs: &xs[..nx],
+            ys: &ys[..ny],
+        };
+        return Some(written(asked, numbers, earlier, &mut bytes[..lent]));
     }
     None
 }

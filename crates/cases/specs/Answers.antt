@@ -8,8 +8,7 @@ use Rattle.game.specs.declared.Positioning.{Positioning}
 use Rattle.game.specs.declared.Positioning.TheVariants.{Legal}
 use Rattle.game.specs.declared.SideDecision.{SideDecision}
 use Rattle.game.specs.declared.Situation.{Situation}
-use Rattle.decision.specs.Decision.{answer_of}
-use Rattle.decision.specs.declared.call.Answer.{Answer}
+use Rattle.decision.specs.Decision.{Answer, answer_of}
 use Rattle.lines.specs.declared.Row.{Row}
 use Rattle.sheet.specs.Rows.{row, sheet_rows}
 use Rattle.game.specs.declared.Margins.{Margins}

@@ -16,7 +16,7 @@ use Rattle.game.specs.declared.Player.{Player}
 use Rattle.game.specs.declared.Side.{Side}
 use Rattle.game.specs.declared.Side.TheVariants.{Home, Away}
 use Rattle.game.specs.declared.Team.{Team}
-use Rattle.geometry.specs.Turned.{signed, changed_seen, changed_team}
+use Rattle.geometry.specs.Turned.{signed, changed_maybe_pose, changed_team}
 use Rattle.geometry.proofs.Turned.{distance_changed, player_at_changed, place_at_changed}
 use Rattle.clearance.specs.Clearance.{Spot, spot_of, spot_unless, spots_at, team_spots, earlier_spots, left_out, occupied, distance_from, least_of, clearance}
 use Rattle.std.specs.Prelude.{Option, None, Some}
@@ -29,7 +29,7 @@ changed_spot a b s = record { x = signed a s.x; y = signed b s.y }
 module _ (a b : Bool) where
   -- ---- who stands where
   -- the spot of a player that is present
-  spot_changed : (p : Option PlayerPose) → spot_of (changed_seen a b p) ≡ map (changed_spot a b) (spot_of p)
+  spot_changed : (p : Option PlayerPose) → spot_of (changed_maybe_pose a b p) ≡ map (changed_spot a b) (spot_of p)
   spot_changed None = refl
   spot_changed (Some p) = refl
 
@@ -38,7 +38,7 @@ module _ (a b : Bool) where
   unfolding spot_unless
   spots_at_changed t skip i = ap (λ (q : Player). cond (eqb (suc i) skip) [] (spot_of q.pose)) (player_at_changed a b t i) ∙ go (eqb (suc i) skip)
     where
-      go : (e : Bool) → cond e [] (spot_of (changed_seen a b (player_at t i).pose)) ≡ map (changed_spot a b) (cond e [] (spot_of (player_at t i).pose))
+      go : (e : Bool) → cond e [] (spot_of (changed_maybe_pose a b (player_at t i).pose)) ≡ map (changed_spot a b) (cond e [] (spot_of (player_at t i).pose))
       go true = refl
       go false = spot_changed (player_at t i).pose
 

@@ -4,7 +4,7 @@
 ghost use Rattle.std.specs.Prelude.{◌≡◌, map, ◌<◌};
 ghost use Rattle.clearance.specs.Clearance as Spec;
 
-use game::{Player, Side, Team};
+use game::{Earlier, Player, Side, Team};
 
 // The lesser of the least distance so far and that of one spot. One that is as far in a single direction is no nearer, so that its distance is not computed.
 fn nearer(least: f32, dx: f32, dy: f32) -> f32
@@ -47,9 +47,11 @@ fn near_team(least: f32, team: Team, skip: u8, x: f32, y: f32) -> f32
 }
 
 // The least distance after the earlier places.
-fn near_places<'a>(least: f32, xs: &'a [f32], ys: &'a [f32], x: f32, y: f32) -> f32
-    ensures { result ≡ Spec.least_of least (map (Spec.distance_from x y) (Spec.earlier_spots xs.now ys.now)) }
+fn near_places(least: f32, earlier: Earlier<'_>, x: f32, y: f32) -> f32
+    ensures { result ≡ Spec.least_of least (map (Spec.distance_from x y) (Spec.earlier_spots earlier.entry.xs.now earlier.entry.ys.now)) }
 {
+    let xs = earlier.xs;
+    let ys = earlier.ys;
     let n = xs.len().min(ys.len());
     let mut acc = least;
     for k in 0..n {
@@ -69,21 +71,20 @@ fn left_out(side: Side, number: u8, other: Side) -> u8
 }
 
 // The distance from (x, y) to the nearest spot that is taken when the player with this number of a side is placed.
-pub fn clearance<'a>(
+pub fn clearance(
     home: Team,
     away: Team,
     side: Side,
     number: u8,
-    xs: &'a [f32],
-    ys: &'a [f32],
+    earlier: Earlier<'_>,
     x: f32,
     y: f32,
 ) -> f32
-    ensures { result ≡ Spec.clearance (Spec.occupied home away side number xs.now ys.now) x y }
+    ensures { result ≡ Spec.clearance (Spec.occupied home away side number earlier.entry.xs.now earlier.entry.ys.now) x y }
 {
     let skip_home = left_out(side, number, Side::Home);
     let skip_away = left_out(side, number, Side::Away);
     let a = near_team(1.0 / 0.0, home, skip_home, x, y);
     let b = near_team(a, away, skip_away, x, y);
-    near_places(b, xs, ys, x, y)
+    near_places(b, earlier, x, y)
 }

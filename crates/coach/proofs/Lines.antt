@@ -29,11 +29,11 @@ use Rattle.conditions.specs.declared.Condition.TheVariants.{NoCondition}
 use Rattle.geometry.specs.Geometry.{side_to_sign, player_margins, compute_margins}
 use Rattle.positioning.specs.Positioning.{condition_of, condition_at, team_conditions}
 use Rattle.sentences.specs.Sentences.{line_of, longest, written}
-use Rattle.sentences.proofs.Claims.{longest_long, never_empty}
-use Rattle.sheet.specs.Sheet.{bytes_in}
+use Rattle.sentences.proofs.Claims.{longest_long}
 use Rattle.sheet.proofs.Texts.{text_short, text_fits}
 use Rattle.coach.specs.Coach.{condition_for, line_for, sentence_of, line_answer, ended, side_sentences, sentences_of, side_conditions, lines_for}
-use Rattle.std.specs.Prelude.{Option, None, Result, Ok, Err}
+use Rattle.std.specs.Prelude.{Option, None, Some, Result, Ok, Err, ok_or}
+use Rattle.std.specs.Result.{result_unwrap_or}
 use Rattle.refusal.specs.declared.Refusal.{Refusal}
 use Rattle.refusal.specs.declared.Refusal.TheVariants.{TextRoom}
 use Rattle.game.specs.declared.Margins.{Margins}
@@ -75,33 +75,18 @@ module _ (side : Side) (n : ℕ) (c : Condition) (text : List ℕ) where
         sym (into_fits [] text (omega arith)) ∙ ap (λ (l : List ℕ). fronted_into l text) (sym empty),
       )
 
-  -- there is one: so many bytes of its line were written
-  module _ (e : is_some c ≡ true) (size : ℕ) (next : List ℕ) (told : size ≡ written (line_of side n (verdict_of c) c) text) (left : next ≡ fronted_into (line_of side n (verdict_of c) c) text) where
-    line : line_for side n c ≡ line_of side n (verdict_of c) c
-    line = ap (λ (b : Bool). cond b (line_of side n (verdict_of c) c) []) e
-
-    kept : next ≡ fronted_into (line_for side n c) text
-    kept = left ∙ ap (λ (l : List ℕ). fronted_into l text) (sym line)
-
-    size_by : (b : Bool) → ltb (length text) (length (line_of side n (verdict_of c) c)) ≡ b → size ≡ cond b 0 (length (line_of side n (verdict_of c) c))
-    unfolding written
-    size_by b q = told ∙ ap (λ (z : Bool). cond z 0 (length (line_of side n (verdict_of c) c))) q
-
-    pub line_short : size ≡ 0 → (Err TextRoom ≡ line_answer (line_for side n c) (length text)) × (next ≡ fronted_into (line_for side n c) text)
-    line_short z = (
-      by_test (ltb (length text) (length (line_of side n (verdict_of c) c)))
-          (λ t. text_short [] 8 (line_of side n (verdict_of c) c) refl refl (length text) (ltb-true _ _ t) ∙ ap (λ (l : List ℕ). line_answer l (length text)) (sym line))
-          (λ f. absurd (omega (arith, size_by false f, z, never_empty side n (verdict_of c) c))),
-      kept,
-    )
-
-    pub line_fits : (size ≡ 0 → ⊥) → (Ok size ≡ line_answer (line_for side n c) (length text)) × (next ≡ fronted_into (line_for side n c) text)
-    line_fits h = (
-      by_test (ltb (length text) (length (line_of side n (verdict_of c) c)))
-          (λ t. absurd (h (size_by true t)))
-          (λ f. ap Ok (size_by false f) ∙ text_fits [] 8 (line_of side n (verdict_of c) c) refl refl (length text) (ltb-false _ _ f) ∙ ap (λ (l : List ℕ). line_answer l (length text)) (sym line)),
-      kept,
-    )
+  -- there is one: so many bytes of its line were written, or None where the text was too short
+  pub line_told : is_some c ≡ true → (made : Option ℕ) (next : List ℕ) → made ≡ written (line_of side n (verdict_of c) c) text → next ≡ fronted_into (line_of side n (verdict_of c) c) text
+      → (ok_or made TextRoom ≡ line_answer (line_for side n c) (length text)) × (next ≡ fronted_into (line_for side n c) text)
+  unfolding written
+  line_told e made next told left =
+      let line : line_of side n (verdict_of c) c ≡ line_for side n c = ap (λ (b : Bool). cond b (line_of side n (verdict_of c) c) []) (sym e) in
+      let size = length (line_of side n (verdict_of c) c) in
+      let by : (b : Bool) → ltb (length text) size ≡ b → ok_or made TextRoom ≡ ok_or (cond b None (Some size)) TextRoom = λ b q. ap (λ (o : Option ℕ). ok_or o TextRoom) (told ∙ ap (λ (z : Bool). cond z None (Some size)) q) in (
+        by_test (ltb (length text) size) (λ t. by true t ∙ text_short [] 8 (line_of side n (verdict_of c) c) refl refl (length text) (ltb-true _ _ t)) (λ f. by false f ∙ text_fits [] 8 (line_of side n (verdict_of c) c) refl refl (length text) (ltb-false _ _ f))
+            ∙ ap (λ (l : List ℕ). line_answer l (length text)) line,
+        left ∙ ap (λ (l : List ℕ). fronted_into l text) line,
+      )
 
 -- no line is longer than 74 bytes
 pub line_few : (side : Side) (n : ℕ) (c : Condition) → length (line_for side n c) ≤ longest
@@ -126,7 +111,7 @@ ended_few (x ∷ l) k h = omega (arith, length-append (x ∷ l) (10 ∷ []))
 
 module _ (side : Side) (n : ℕ) (c : Condition) (lines : List ℕ) (at : ℕ) (room : at + 75 ≤ length lines)
     (answer : Result ℕ Refusal) (part : List ℕ) (told : answer ≡ line_answer (line_for side n c) (length (take (length lines - at) (drop at lines))))
-    (left : part ≡ fronted_into (line_for side n c) (take (length lines - at) (drop at lines))) (size : ℕ) (sized : size ≡ bytes_in answer) where
+    (left : part ≡ fronted_into (line_for side n c) (take (length lines - at) (drop at lines))) (size : ℕ) (sized : size ≡ result_unwrap_or answer 0) where
   part_long : length (take (length lines - at) (drop at lines)) ≡ length lines - at
   part_long = omega (arith, length-take (length lines - at) (drop at lines), length-drop at lines)
 
@@ -134,7 +119,7 @@ module _ (side : Side) (n : ℕ) (c : Condition) (lines : List ℕ) (at : ℕ) (
   enough = omega (arith, part_long, line_few side n c)
 
   pub size_told : size ≡ length (line_for side n c)
-  size_told = sized ∙ ap bytes_in (told ∙ sym (text_fits [] 8 (line_for side n c) refl refl _ enough))
+  size_told = sized ∙ ap (λ (r : Result ℕ Refusal). result_unwrap_or r 0) (told ∙ sym (text_fits [] 8 (line_for side n c) refl refl _ enough))
 
   -- the line stands there
   pub part_over : take at lines ++ (part ++ drop (length lines - at) (drop at lines)) ≡ over at (line_for side n c) lines

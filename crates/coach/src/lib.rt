@@ -5,7 +5,6 @@ ghost use Rattle.std.specs.Prelude.{◌≡◌, ◌||◌, ◌+◌, ◌≤◌, eqb
 ghost use Rattle.lists.specs.Put.{fronted_into};
 ghost use Rattle.lines.specs.Over.{over};
 ghost use Rattle.refusal.specs.Refusal.{unless_refused, number_in};
-ghost use Rattle.sheet.specs.Sheet.{bytes_in};
 ghost use Rattle.coach.specs.Coach as Spec;
 
 use conditions::Condition;
@@ -39,11 +38,7 @@ fn sentence(side: Side, number: u8, condition: Condition, text: &mut [u8]) -> Re
         return Ok(0);
     }
     let verdict = conditions::verdict_of(condition);
-    let size = sentences::coach_line(side, number, verdict, condition, text);
-    if size == 0 {
-        return Err(Refusal::TextRoom);
-    }
-    Ok(size)
+    sentences::coach_line(side, number, verdict, condition, text).ok_or(Refusal::TextRoom)
 }
 
 // Whether a refusal of the number that is asked for comes before what is told of the situation.
@@ -84,16 +79,6 @@ pub fn write_sentence(
     sentence(side, n, condition, text)
 }
 
-// How many bytes an answer tells of.
-fn bytes_in(answer: Result<usize, Refusal>) -> usize
-    ensures { result ≡ bytes_in answer }
-{
-    match answer {
-        Err(_) => 0,
-        Ok(n) => n,
-    }
-}
-
 // Writes the line of a player's condition, with a line feed after it, over the bytes from a place on, and answers the place after it.
 fn ended_sentence(
     side: Side,
@@ -106,13 +91,12 @@ fn ended_sentence(
     ensures value { result ≡ at + length (Spec.ended (Spec.line_for side number condition)) }
     ensures lines_after { lines.new ≡ over at (Spec.ended (Spec.line_for side number condition)) lines.old }
 {
-    let answer = sentence(side, number, condition, &mut lines[at..]);
-    let size = bytes_in(answer);
+    let size = sentence(side, number, condition, &mut lines[at..]).unwrap_or(0);
     if size == 0 {
         return at;
     }
     let end = at + size;
-    lines[end] = 10;
+    lines[end] = b'\n';
     end + 1
 }
 

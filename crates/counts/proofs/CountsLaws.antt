@@ -4,7 +4,7 @@ use mathlib.Core.Bool.{Bool, ◌&&◌}
 use Rattle.game.specs.declared.Team.{Team}
 use Rattle.game.specs.Game.{is_unpenalized, is_present}
 use Rattle.game.specs.Players.{player_at}
-use Rattle.geometry.specs.Turned.{changed_seen, changed_team}
+use Rattle.geometry.specs.Turned.{changed_maybe_pose, changed_team}
 use Rattle.geometry.proofs.Turned.{player_at_changed}
 use Rattle.counts.specs.Counts.{is_on_field, players_on_field}
 use Rattle.lists.proofs.Counting.{count_same}
@@ -12,7 +12,7 @@ use Rattle.std.specs.Prelude.{Option, None, Some}
 use Rattle.game.specs.declared.PlayerPose.{PlayerPose}
 
 -- they keep who is present
-present_changed : (a b : Bool) (p : Option PlayerPose) → is_present (changed_seen a b p) ≡ is_present p
+present_changed : (a b : Bool) (p : Option PlayerPose) → is_present (changed_maybe_pose a b p) ≡ is_present p
 present_changed a b None = refl
 present_changed a b (Some p) = refl
 

@@ -1,19 +1,10 @@
 // How many players a team has on the field.
 #![tactic(auto)]
 
-ghost use Rattle.std.specs.Prelude.{◌≡◌, ◌<◌};
-ghost use Rattle.lists.specs.Put.{count_if};
+ghost use Rattle.std.specs.Prelude.{◌≡◌};
 ghost use Rattle.counts.specs.Counts as Spec;
 
 use game::{Player, Team};
-
-// One more, or not.
-fn counted(wanted: bool, n: usize) -> usize
-    requires { n < 20 }
-    ensures { result ≡ count_if wanted n }
-{
-    if wanted { n + 1 } else { n }
-}
 
 // Unpenalised and present.
 fn is_on_field(player: Player) -> bool
@@ -33,9 +24,9 @@ pub fn players_on_field(team: Team) -> usize
     let players = team.players;
     let mut n: usize = 0;
     for i in 0..20 {
-        let player = players[i];
-        let on_field = is_on_field(player);
-        n = counted(on_field, n);
+        if is_on_field(players[i]) {
+            n += 1;
+        }
     }
     n
 }

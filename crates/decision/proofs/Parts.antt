@@ -17,7 +17,7 @@ use Rattle.places.proofs.Turned.{Located, FitsY}
 use Rattle.ball.proofs.Sizes.{Sized}
 use Rattle.penalty.proofs.Sizes.{PlaceSizes}
 use Rattle.penalty.proofs.Sizes as Sizes
-use Rattle.refusals.specs.Refusals.{is_coordinate, is_radius, is_player_number, pose_fits, seen_fits, field_fits, ball_fits, wish_fits, refusal_of}
+use Rattle.refusals.specs.Refusals.{is_coordinate, is_radius, is_player_number, pose_fits, maybe_pose_fits, field_fits, ball_fits, wish_fits, refusal_of}
 use Rattle.refusals.proofs.Accepted.{Ranges, accepted, field_ranges, numbered_fits, team_fits_holds, wished_fits}
 use Rattle.decision.specs.Fit.{Fit, PoseFit, SeenFit, SizesFit}
 use Rattle.decision.proofs.Accepted.{coordinate_within, ball_located, field_sized}
@@ -34,7 +34,7 @@ pub record Parts (s : Situation) : Type 0 where
 -- what is asked of the values besides that the floats fit: the ranges of field, ball and seen poses, and the wished number
 pub record InRange (s : Situation) : Type 0 where
   pub field_fits_holds : field_fits s.field ≡ true
-  pub poses_fit_holds : (side : Side) (n : ℕ) → is_player_number n ≡ true → seen_fits (player_numbered (team_of s side) n).pose ≡ true
+  pub poses_fit_holds : (side : Side) (n : ℕ) → is_player_number n ≡ true → maybe_pose_fits (player_numbered (team_of s side) n).pose ≡ true
   pub ball_fits_holds : ball_fits s.ball ≡ true
   pub wish_fits_holds : wish_fits s.wish ≡ true
 
@@ -72,11 +72,11 @@ module _ (f : FieldDimensions) (r : Ranges f) (fit : SizesFit f) where
         y_no_nan = (coordinate_within p.y h.y two.1).number.no_nan;
       }
 
-  seen_sizes : (p : Option PlayerPose) → SeenFit p → seen_fits p ≡ true → Sizes.Fit f p
+  seen_sizes : (p : Option PlayerPose) → SeenFit p → maybe_pose_fits p ≡ true → Sizes.Fit f p
   seen_sizes None h e = tt
   seen_sizes (Some p) h e = pose_sizes p h e
 
-  numbered_sizes : (t : Team) → ((i : ℕ) → SeenFit (player_at t i).pose) → (n : ℕ) → seen_fits (player_numbered t n).pose ≡ true → Sizes.Fit f (player_numbered t n).pose
+  numbered_sizes : (t : Team) → ((i : ℕ) → SeenFit (player_at t i).pose) → (n : ℕ) → maybe_pose_fits (player_numbered t n).pose ≡ true → Sizes.Fit f (player_numbered t n).pose
   numbered_sizes t h zero e = tt
   numbered_sizes t h (suc i) e = seen_sizes (player_at t i).pose (h i) e
 

@@ -20,14 +20,14 @@ use Rattle.game.specs.declared.SideDecision.{SideDecision}
 use Rattle.game.specs.declared.Situation.{Situation}
 use Rattle.game.specs.declared.Team.{Team}
 use Rattle.geometry.specs.Geometry.{side_to_sign, compute_margins}
-use Rattle.geometry.specs.Turned.{changed_reference, changed_team, changed_game, changed_ball}
+use Rattle.geometry.specs.Turned.{changed_maybe_pose, changed_team, changed_game, changed_ball}
 use Rattle.geometry.proofs.Turned.{player_at_changed, sign_changed, compute_margins_changed, leaving_changed}
 use Rattle.positioning.specs.Positioning.{is_illegally_positioned}
 use Rattle.positioning.proofs.Turned.{verdict_changed}
 use Rattle.excess.proofs.ExcessLaws.{excess_changed}
 use Rattle.kicker.proofs.KickerLaws.{kicker_changed}
 use Rattle.motion.specs.Motion.{references_after}
-use Rattle.motion.proofs.Turned.{changed_element, moved_players_changed, references_changed}
+use Rattle.motion.proofs.Turned.{moved_players_changed, references_changed}
 use Rattle.decision.specs.Decision.{verdict_at, team_verdicts, team_excess, is_excess_asked, empty_list, is_leaving, leaving_players, team_margins, side_margins, team_decision, side_decision, kicker_numbered, kicker_if_any, kicking_player}
 use Rattle.decision.specs.Changed.{changed, ChangedReference, ChangedReferences, ChangedSide}
 use Rattle.std.specs.Prelude.{Option, None, Some}
@@ -72,11 +72,11 @@ module _ (a b : Bool) where
       (λ i h. ap (λ (q : Player). is_leaving q f) (player_at_changed a b t i) ∙ leaving_changed a b (player_at t i) f (player_at t i).allowance)
 
   -- ---- references
-  reference_same : (r : Option PlayerPose) → ChangedReference a b r (changed_reference a b r)
+  reference_same : (r : Option PlayerPose) → ChangedReference a b r (changed_maybe_pose a b r)
   reference_same None = tt
   reference_same (Some p) = (inl refl, inl refl, refl, refl)
 
-  references_same : (l : List (Option PlayerPose)) → ChangedReferences a b l (map (changed_element a b) l)
+  references_same : (l : List (Option PlayerPose)) → ChangedReferences a b l (map (changed_maybe_pose a b) l)
   references_same [] = tt
   references_same (r ∷ l) = (reference_same r, references_same l)
 

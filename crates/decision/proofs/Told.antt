@@ -5,7 +5,6 @@ use mathlib.Core.Bool.{Bool, true, false, cond}
 use mathlib.Core.List.{List}
 use Prim.Native.Nat.{ℕ}
 use borrow.Author.Tests.{eq-eqb, ne_eqb}
-use lib.Dec.{eqb}
 use lib.Ieee.{Float}
 use lib.ListN.{get_or, replicate}
 use Rattle.lists.specs.Table.{table}
@@ -35,14 +34,18 @@ use Rattle.motion.specs.Motion.{moved_players, references_after}
 use Rattle.game.specs.declared.BallJudgment.{BallJudgment}
 use Rattle.game.specs.declared.Placement.{Placement}
 use Rattle.refusals.specs.Refusals.{refusal_of}
-use Rattle.decision.specs.Decision.{verdict_at, team_verdicts, is_excess_asked, empty_list, team_excess, leaving_players, kicker_numbered, kicker_if_any, kicking_player, ball_called_among, ball_called, wished_place, team_margins, team_decision, side_margins, side_decision, decision_of, empty_decision, answer_of}
+use Rattle.decision.specs.Decision.{verdict_at, team_verdicts, is_excess_asked, empty_list, team_excess, leaving_players, kicker_numbered, kicker_if_any, kicking_player, ball_called_among, ball_called, wished_place, team_margins, team_decision, side_margins, side_decision, decision_of, empty_decision, answer_of, answered}
 use Rattle.game.specs.declared.SideDecision.{SideDecision}
 use Rattle.game.specs.declared.Decision.{Decision}
 use Rattle.seen.specs.Seen.{side_seen}
 use Rattle.seen.specs.declared.Seen.{Seen}
-use Rattle.decision.specs.declared.call.Answer.{Answer}
+use Rattle.refusal.specs.Refusal as Numbers
+use Rattle.refusal.specs.Refusal.{refused, unless_refused, number_in}
+use Rattle.refusal.specs.declared.Refusal.{Refusal}
+use Rattle.refusal.proofs.Told.{not_refused, refused_by}
+use Rattle.refusals.proofs.Numbers.{number_back}
 use Rattle.game.specs.declared.KickingPlayer.{KickingPlayer}
-use Rattle.std.specs.Prelude.{Option, Some}
+use Rattle.std.specs.Prelude.{⊤, Option, Some, Result, Ok, Err}
 use Rattle.game.specs.declared.Margins.{Margins}
 use Rattle.conditions.specs.declared.Condition.{Condition}
 use Rattle.game.specs.declared.PlayerPose.{PlayerPose}
@@ -149,18 +152,20 @@ module _ (s : Situation) (xs ys : List Float) where
       ∙ ap (λ (z : BallJudgment). whole (side_decision s Home) (side_decision s Away) (kicks (side_margins s Home) (side_margins s Away)) z p) (eb ∙ ap (λ (n : ℕ). ball_called_among s n an) ehn ∙ ap (ball_called_among s (players_on_field s.home)) ean)
       ∙ ap (whole (side_decision s Home) (side_decision s Away) (kicks (side_margins s Home) (side_margins s Away)) (ball_called s)) ep
 
-  -- ---- the answer: a number beside the decision that goes with it
-  answer : ℕ → Bool → Answer
-  answer n accepted = record { refusal = n; decision = cond accepted (decision_of s xs ys) empty_decision }
+  -- ---- the answer: the decision, or the refusal alone
+  given : Bool → Result Decision Refusal
+  given accepted = cond accepted (Ok (cond accepted (decision_of s xs ys) empty_decision)) (refused (refusal_of s xs ys))
 
-  answered : (n : ℕ) (accepted : Bool) → n ≡ refusal_of s xs ys → eqb n 0 ≡ accepted → answer n accepted ≡ answer_of s xs ys
-  unfolding answer answer_of
-  answered n accepted en e = ap (answer n) (sym e) ∙ ap (λ (k : ℕ). answer k (eqb k 0)) en
+  pub answer_accepted : (d : Decision) → ◌≡◌ {A = Result ⊤ Refusal} (Ok tt) (unless_refused (refusal_of s xs ys) tt) → d ≡ decision_of s xs ys → Ok d ≡ answered (answer_of s xs ys)
+  unfolding given answer_of
+  answer_accepted d e ed = ap Ok ed ∙ ap given (sym (eq-eqb (refusal_of s xs ys) 0 (not_refused (refusal_of s xs ys) tt tt e).0))
 
-  pub answer_accepted : (n : ℕ) (d : Decision) → n ≡ refusal_of s xs ys → n ≡ 0 → d ≡ decision_of s xs ys → record { refusal = n; decision = d } ≡ answer_of s xs ys
-  unfolding answer
-  answer_accepted n d en e ed = ap (λ (z : Decision). record { refusal = n; decision = z }) ed ∙ answered n true en (eq-eqb n 0 e)
+  pub answer_refused : (r : Refusal) → ◌≡◌ {A = Result ⊤ Refusal} (Err r) (unless_refused (refusal_of s xs ys) tt) → Err r ≡ answered (answer_of s xs ys)
+  unfolding given answer_of
+  answer_refused r e = let p = refused_by (refusal_of s xs ys) tt r e in ap Err p.1 ∙ ap given (sym (ne_eqb (refusal_of s xs ys) 0 p.0))
 
-  pub answer_refused : (n : ℕ) (d : Decision) → n ≡ refusal_of s xs ys → (n ≡ 0 → ⊥) → d ≡ empty_decision → record { refusal = n; decision = d } ≡ answer_of s xs ys
-  unfolding answer
-  answer_refused n d en e ed = ap (λ (z : Decision). record { refusal = n; decision = z }) ed ∙ answered n false en (ne_eqb n 0 e)
+-- ---- and back from it
+module _ (s : Situation) (xs ys : List Float) where
+  pub answered_number : (r : Refusal) → Err r ≡ answered (answer_of s xs ys) → Numbers.number_of r ≡ (answer_of s xs ys).refusal
+  unfolding answer_of
+  answered_number r e = ap number_in e ∙ number_back (answer_of s xs ys).decision s xs ys

@@ -1,8 +1,8 @@
 -- The items of a decision, as document 01 names them: each player's verdict; each side's excess list; the kicking player; the lists of players leaving
 -- and moved; the reference poses after motion; the ball judgment; the place wished for. Definitions only.
-use Rattle.std.specs.Prelude.{Bool, not, cond, ◌&&◌, ◌||◌, List, [], ℕ, eqb, replicate, Float, Option, None, Some}
+use Rattle.std.specs.Prelude.{Bool, cond, List, [], ℕ, eqb, replicate, Float, Option, None, Some, Result}
 use Rattle.lists.specs.Table.{table}
-use Rattle.game.specs.Game.{is_shootout, is_set, is_playing}
+use Rattle.game.specs.Game.{is_playing}
 use Rattle.game.specs.Players.{player_at, player_numbered, margins_at, team_of, listed, number_at, numbers_where}
 use Rattle.game.specs.declared.Ball.{Ball}
 use Rattle.game.specs.declared.FieldDimensions.{FieldDimensions}
@@ -16,7 +16,7 @@ use Rattle.game.specs.declared.Team.{Team}
 use Rattle.game.specs.declared.Wish.{Wish}
 use Rattle.game.specs.declared.Wish.TheVariants.{Nothing, BallAtRestart, BallInSet, ForPenalty, ForPenaltyShot, Goalkeeper}
 use Rattle.geometry.specs.Geometry.{side_to_sign, compute_margins, is_leaving_the_field}
-use Rattle.positioning.specs.Positioning.{is_illegally_positioned}
+use Rattle.positioning.specs.Positioning.{is_set_or_playing, is_illegally_positioned}
 use Rattle.game.specs.declared.Positioning.TheVariants.{Legal}
 use Rattle.counts.specs.Counts.{players_on_field}
 use Rattle.excess.specs.Excess.{goal_area_excess}
@@ -33,7 +33,8 @@ use Rattle.refusals.specs.Refusals.{refusal_of}
 use Rattle.game.specs.declared.KickingPlayer.{KickingPlayer}
 use Rattle.game.specs.declared.SideDecision.{SideDecision}
 use Rattle.game.specs.declared.Decision.{Decision}
-use Rattle.decision.specs.declared.call.Answer.{Answer}
+use Rattle.refusal.specs.Refusal.{unless_refused}
+use Rattle.refusal.specs.declared.Refusal.{Refusal}
 use Rattle.game.specs.declared.Margins.{Margins}
 use Rattle.game.specs.declared.Positioning.{Positioning}
 
@@ -49,7 +50,7 @@ team_verdicts g f b side t margins = table 20 (verdict_at g f b side t margins)
 -- ---- a side's excess list, empty where it is not asked
 -- outside the shoot-out in Set or Playing
 abbrev pub is_excess_asked : Game → Bool
-is_excess_asked g = not (is_shootout g.phase) && (is_set g.state || is_playing g.state)
+is_excess_asked g = is_set_or_playing g
 
 -- no player
 unfoldable pub empty_list : PlayerList
@@ -169,7 +170,16 @@ empty_side =
 unfoldable pub empty_decision : Decision
 empty_decision = record { home = empty_side; away = empty_side; kicker = None; ball = NoJudgment; place = NoPlace }
 
+-- the number of the refusal, or 0 beside the decision
+pub record Answer : Type 0 where
+  pub refusal : ℕ
+  pub decision : Decision
+
 -- a refusal gives its number only
 unfoldable pub answer_of : Situation → List Float → List Float → Answer
 answer_of s xs ys =
     record { refusal = refusal_of s xs ys; decision = cond (eqb (refusal_of s xs ys) 0) (decision_of s xs ys) empty_decision }
+
+-- an answer by its number: the decision beside 0, otherwise the refusal alone
+abbrev pub answered : Answer → Result Decision Refusal
+answered a = unless_refused a.refusal a.decision

@@ -1,18 +1,11 @@
-// A decision: every item of document 01 for one situation, or the number of the refusal.
+// A decision: every item of document 01 for one situation, or the refusal.
 ghost use Rattle.std.specs.Prelude.{◌≡◌};
 ghost use Rattle.decision.specs.Decision as Spec;
 
 use game::{
-    Ball, BallJudgment, Decision, FieldDimensions, Game, KickingPlayer, Margins, Placement,
-    Positioning, Side, SideDecision, Situation, Team,
+    Ball, Decision, Earlier, FieldDimensions, Game, Margins, Side, SideDecision, Situation, Team,
 };
-
-// The number of the refusal, or 0 beside the decision; a refusal gives the empty one.
-#[derive(Clone, Copy)]
-pub struct Answer {
-    pub refusal: u8,
-    pub decision: Decision,
-}
+use refusal::Refusal;
 
 // The items of one side, by its margins.
 fn team_decision(
@@ -41,8 +34,8 @@ fn team_decision(
 }
 
 // The decision on a situation, item by item. Whether the situation is to be refused is asked before.
-pub fn decision_of<'a>(s: Situation, xs: &'a [f32], ys: &'a [f32]) -> Decision
-    ensures { result ≡ Spec.decision_of s xs.now ys.now }
+pub fn decision_of(s: Situation, earlier: Earlier<'_>) -> Decision
+    ensures { result ≡ Spec.decision_of s earlier.entry.xs.now earlier.entry.ys.now }
 {
     let game = s.game;
     let field = s.field;
@@ -64,7 +57,7 @@ pub fn decision_of<'a>(s: Situation, xs: &'a [f32], ys: &'a [f32]) -> Decision
         away_margins,
     );
     let ball = super::judges::ball_judgment(s, home_seen.on_field, away_seen.on_field);
-    let place = super::judges::wished_place(s, xs, ys);
+    let place = super::judges::wished_place(s, earlier);
     Decision {
         home,
         away,
@@ -74,38 +67,10 @@ pub fn decision_of<'a>(s: Situation, xs: &'a [f32], ys: &'a [f32]) -> Decision
     }
 }
 
-// The decision beside a refusal: of each side every verdict Legal, no lists and no references.
-#[tactic(auto, unfolding(crate::specs::Decision::empty_side, crate::specs::Decision::empty_decision))]
-pub fn empty_decision() -> Decision
-    ensures { result ≡ Spec.empty_decision }
+// One situation, one decision, or its refusal.
+pub fn decide(s: Situation, earlier: Earlier<'_>) -> Result<Decision, Refusal>
+    ensures { result ≡ Spec.answered (Spec.answer_of s earlier.entry.xs.now earlier.entry.ys.now) }
 {
-    let nobody = super::judges::empty_list();
-    let side = SideDecision {
-        verdicts: [Positioning::Legal; 20],
-        excess: nobody,
-        leaving: nobody,
-        moved: nobody,
-        references: [None; 20],
-    };
-    Decision {
-        home: side,
-        away: side,
-        kicker: None,
-        ball: BallJudgment::NoJudgment,
-        place: Placement::NoPlace,
-    }
-}
-
-// One situation, one decision; the earlier places of the batch are the two lists.
-pub fn decide<'a>(s: Situation, xs: &'a [f32], ys: &'a [f32]) -> Answer
-    ensures { result ≡ Spec.answer_of s xs.now ys.now }
-{
-    let refusal = refusal::number_in(refusals::refusal(s, xs, ys));
-    let accepted = refusal == 0;
-    if accepted {
-        let decision = decision_of(s, xs, ys);
-        return Answer { refusal, decision };
-    }
-    let decision = empty_decision();
-    Answer { refusal, decision }
+    refusals::refusal(s, earlier)?;
+    Ok(decision_of(s, earlier))
 }

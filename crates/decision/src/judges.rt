@@ -3,8 +3,8 @@ ghost use Rattle.std.specs.Prelude.{◌≡◌};
 ghost use Rattle.decision.specs.Decision as Spec;
 
 use game::{
-    Ball, BallJudgment, FieldDimensions, Game, KickingPlayer, Margins, Placement, PlayerList,
-    Positioning, Side, Situation, Team, Wish,
+    Ball, BallJudgment, Earlier, FieldDimensions, Game, KickingPlayer, Margins, Placement,
+    PlayerList, Positioning, Side, Situation, Team, Wish,
 };
 
 // The verdicts on a side's players by their places, Legal too. Most of a game has no set play, and then no player is looked at.
@@ -58,12 +58,8 @@ pub fn empty_list() -> PlayerList
 pub fn team_excess(game: Game, team: Team, margins: [Option<Margins>; 20]) -> PlayerList
     ensures { result ≡ Spec.team_excess game team margins }
 {
-    let phase = game.phase;
-    let state = game.state;
-    let shootout = game::is_shootout(phase);
-    let set = game::is_set(state);
-    let playing = game::is_playing(state);
-    let asked = !shootout & (set | playing);
+    let playing = game::is_playing(game.state);
+    let asked = positioning::is_set_or_playing(game);
     if asked {
         return excess::goal_area_excess(team, margins, playing);
     }
@@ -143,8 +139,8 @@ fn goalkeeper_place(s: Situation, side: Side) -> Placement
 
 // The place wished for, or none.
 #[tactic(auto, unfolding(crate::specs::Decision::wished_place))]
-pub fn wished_place<'a>(s: Situation, xs: &'a [f32], ys: &'a [f32]) -> Placement
-    ensures { result ≡ Spec.wished_place s xs.now ys.now }
+pub fn wished_place(s: Situation, earlier: Earlier<'_>) -> Placement
+    ensures { result ≡ Spec.wished_place s earlier.entry.xs.now earlier.entry.ys.now }
 {
     let game = s.game;
     let field = s.field;
@@ -160,7 +156,7 @@ pub fn wished_place<'a>(s: Situation, xs: &'a [f32], ys: &'a [f32]) -> Placement
             let distance = s.penalty_placement_distance;
             let home = s.home;
             let away = s.away;
-            penalty::place_for_penalty(game, field, distance, home, away, xs, ys, side, number)
+            penalty::place_for_penalty(game, field, distance, home, away, earlier, side, number)
         }
         Wish::ForPenaltyShot(side, number) => shot_place(s, side, number),
         Wish::Goalkeeper(side) => goalkeeper_place(s, side),

@@ -1,10 +1,10 @@
-// The call: one situation, one decision, or the number of a refusal.
+// The call: one situation, one decision, or a refusal.
 #![tactic(auto)]
 
 mod call;
 mod judges;
 
-pub use call::{Answer, decide, decision_of, empty_decision};
+pub use call::{decide, decision_of};
 pub use judges::{
     ball_judgment, kicking_player, leaving_players, team_excess, team_verdicts, wished_place,
 };

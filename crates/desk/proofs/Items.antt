@@ -1,18 +1,15 @@
 -- The lines of the items of a sheet, one after the other. Assumes nothing.
 use mathlib.Core.Path.{◌≡◌, refl, sym, ap, ◌∙◌}
-use mathlib.Core.Bool.{Bool, true, false, cond}
+use mathlib.Core.Bool.{Bool, true, cond}
 use mathlib.Core.List.{List, [], ◌∷◌, ◌++◌, map, append_assoc, append-nil}
 use Prim.Native.Nat.{ℕ, zero, suc, ◌+◌, ◌-◌, ◌*◌, ◌≤◌, ◌<◌}
 use native.Mathlib.Nat.{not-suc-le-zero, le_of_suc-le-suc}
 use native.Mathlib.Omega.{arith}
-use borrow.Author.Tests.{eq-eqb, ne_eqb, le-ltb}
-use lib.Dec.{ltb}
-use lib.ListN.{length, take, drop, length-append, length-drop}
-use lib.Seq.{length-take-le}
+use borrow.Author.Tests.{eq-eqb, ne_eqb}
+use lib.ListN.{length, take, length-append}
 use Rattle.std.specs.Prelude.{Ok, Err}
-use Rattle.lists.specs.Put.{fronted, fronted_into}
 use Rattle.lists.proofs.Bools.{both_true}
-use Rattle.replies.specs.Replies.{refused_line, line_in, written_in}
+use Rattle.replies.specs.Replies.{refused_line}
 use Rattle.lines.specs.declared.Row.{Row}
 use Rattle.fields.specs.Fields.{rows_in}
 use Rattle.fields.proofs.Texts.{SmallRows, one_row, text_written}
@@ -43,12 +40,6 @@ lines_none is = refl
 pub data Short : List Item → Type 0 where
   no_item : Short []
   one_item : {i : Item} {is : List Item} → length (item_line i) ≤ 100 → Short is → Short (i ∷ is)
-
-pub found_short : (k : ℕ) (is : List Item) → Short is → length (found_line (Ok (nth_item k is))) ≤ 100
-unfolding nth_item
-found_short k [] hs = omega arith
-found_short zero (i ∷ is) (one_item h hs) = h
-found_short (suc k) (i ∷ is) (one_item h hs) = found_short k is hs
 
 pub lines_short : (k : ℕ) (is : List Item) → Short is → length (item_lines (take k is)) ≤ 100 * k
 unfolding item_lines
@@ -98,20 +89,3 @@ short_items (r ∷ rs) (one_row fit small) e =
 pub text_short : (text : List ℕ) → read_refusal text ≡ 0 → Short (items_in text)
 unfolding items_in
 text_short text e = let a = accepted_view text e in short_items (following (rows_in text)) (small_following (rows_in text) (text_written text a.form).1) (body_items (rows_in text) a.sheet)
-
--- ---- a line in a part of the bytes
-pub record Fitted (xs line : List ℕ) (at n : ℕ) (ys : List ℕ) : Type 0 where
-  pub size : n ≡ length line
-  pub front : ys ≡ fronted line (take (length xs - at) (drop at xs))
-
--- the part that begins at a place has room for it
-pub line_fitted : (xs line : List ℕ) (at n : ℕ) (ys : List ℕ) → at + length line ≤ length xs → n ≡ written_in line (take (length xs - at) (drop at xs)) → ys ≡ line_in line (take (length xs - at) (drop at xs)) → Fitted xs line at n ys
-unfolding written_in fronted_into
-line_fitted xs line at n ys h en ey =
-    let part = take (length xs - at) (drop at xs) in
-    let long : length part ≡ length xs - at = length-take-le (length xs - at) (drop at xs) (omega (arith, length-drop at xs)) in
-    let room : ltb (length part) (length line) ≡ false = le-ltb (length part) (length line) (omega (arith, long, h)) in
-    record {
-      size = en ∙ ap (λ (b : Bool). cond b 0 (length line)) room;
-      front = ey ∙ ap (λ (b : Bool). cond b part (fronted line part)) room;
-    }

@@ -2,7 +2,7 @@
 #![tactic(auto)]
 
 ghost use Rattle.std.specs.Prelude.{◌≡◌, ◌+◌, ◌≤◌, Ok, length};
-ghost use Rattle.lines.specs.Over.{over};
+ghost use Rattle.text.specs.Pushed.{pushed};
 ghost use Rattle.input.specs.Input.{most_places, numbers_for};
 ghost use Rattle.reading.specs.Reading.{items_in, sheet_read};
 ghost use Rattle.item_lines.specs.ItemLines.{item_line};
@@ -10,11 +10,12 @@ ghost use Rattle.desk.specs.Desk as Spec;
 
 use call::SheetFor;
 use columns::layout::WORDS;
-use game::Situation;
+use game::{Earlier, Situation};
 use input::{FIRST_X, FIRST_Y, NUMBERS, PLACES};
 use items::Item;
 use reading::NoSheet;
 use refusal::Refusal;
+use text::Text;
 
 // What was written, of so many bytes: an answer, a sheet, the coach's lines or those of items, or something else that is told, a refusal or what is wrong with the input.
 #[derive(Clone, Copy)]
@@ -23,7 +24,7 @@ pub enum Reply {
     Told(usize),
 }
 
-// What is wanted of a situation.
+// What is wanted of a situation. An enum and no closure: each clause names by it what is answered and what is written, which a closure would have to state in clauses of its own.
 #[derive(Clone, Copy)]
 enum Wanted {
     Sheet(SheetFor),
@@ -31,34 +32,27 @@ enum Wanted {
 }
 
 // Decides on a situation and writes what is wanted of it.
-fn write_wanted<'a>(
+fn write_wanted(
     wanted: Wanted,
     s: Situation,
-    xs: &'a [f32],
-    ys: &'a [f32],
+    earlier: Earlier<'_>,
     out: &mut [u8],
 ) -> Result<usize, Refusal>
-    ensures value { result ≡ Spec.wanted_answer wanted s xs.now ys.now (length out.old) }
-    ensures out_after { out.new ≡ Spec.wanted_after wanted s xs.now ys.now out.old }
+    ensures value { result ≡ Spec.wanted_answer wanted s earlier.entry.xs.now earlier.entry.ys.now (length out.old) }
+    ensures out_after { out.new ≡ Spec.wanted_after wanted s earlier.entry.xs.now earlier.entry.ys.now out.old }
 {
     match wanted {
-        Wanted::Sheet(to) => call::write_sheet(to, s, xs, ys, out),
-        Wanted::Sentences => call::write_sentences(s, xs, ys, out),
+        Wanted::Sheet(to) => call::write_sheet(to, s, earlier, out),
+        Wanted::Sentences => call::write_sentences(s, earlier, out),
     }
 }
 
 // The same, with the line of a refusal in its place.
-fn judge_situation<'a>(
-    wanted: Wanted,
-    s: Situation,
-    xs: &'a [f32],
-    ys: &'a [f32],
-    out: &mut [u8],
-) -> Reply
-    ensures value { result ≡ Spec.reply_in (Spec.situation_printed wanted s xs.now ys.now (length out.old)) out.old }
-    ensures out_after { out.new ≡ Spec.printed_in (Spec.situation_printed wanted s xs.now ys.now (length out.old)) out.old }
+fn judge_situation(wanted: Wanted, s: Situation, earlier: Earlier<'_>, out: &mut [u8]) -> Reply
+    ensures value { result ≡ Spec.reply_in (Spec.situation_printed wanted s earlier.entry.xs.now earlier.entry.ys.now (length out.old)) out.old }
+    ensures out_after { out.new ≡ Spec.printed_in (Spec.situation_printed wanted s earlier.entry.xs.now earlier.entry.ys.now (length out.old)) out.old }
 {
-    let answer = write_wanted(wanted, s, xs, ys, out);
+    let answer = write_wanted(wanted, s, earlier, out);
     match answer {
         Err(refused) => Reply::Told(replies::refused_line(refusal::number_of(refused), out)),
         Ok(n) => Reply::Answer(n),
@@ -77,7 +71,11 @@ fn judge_numbers(wanted: Wanted, numbers: &[u32], nx: usize, ny: usize, out: &mu
     input::fill_places(&numbers[FIRST_X..FIRST_X + nx], &mut xs);
     input::fill_places(&numbers[from..from + ny], &mut ys);
     let s = words::situation_of(&numbers[..WORDS]);
-    judge_situation(wanted, s, &xs[..nx], &ys[..ny], out)
+    let earlier = Earlier {
+        xs: &xs[..nx],
+        ys: &ys[..ny],
+    };
+    judge_situation(wanted, s, earlier, out)
 }
 
 // Reads a situation from a text and writes what is printed for it.
@@ -120,41 +118,41 @@ pub fn coach(text: &[u8], out: &mut [u8]) -> Reply
 // Room for the lines of the items of every sheet, at most 165 of at most 100 bytes.
 const ITEMS: usize = 16500;
 
-// Writes the line of an item over the bytes from a place on, and answers the place after it.
-fn put_item(lines: &mut [u8], at: usize, item: Item) -> usize
-    requires { at + length (item_line item) ≤ length lines.old }
-    ensures value { result ≡ at + length (item_line item) }
-    ensures lines_after { lines.new ≡ over at (item_line item) lines.old }
+// Room for the line of every item.
+const LINE: usize = 128;
+
+// Puts the line of an item after other lines.
+fn push_item(lines: &mut Text<ITEMS>, item: Item)
+    ensures { lines.new ≡ pushed 16500 lines.old (item_line item) }
 {
-    let n = item_lines::item_line(item, &mut lines[at..]);
-    at + n
+    let mut line = [0u8; LINE];
+    let n = item_lines::item_line(item, &mut line);
+    lines.push(replies::front(&line, n));
 }
 
 // The same of what is read of a line; of nothing, nothing.
-fn put_found(lines: &mut [u8], at: usize, found: Result<Option<Item>, NoSheet>) -> usize
-    requires { at + length (Spec.found_line found) ≤ length lines.old }
-    ensures value { result ≡ at + length (Spec.found_line found) }
-    ensures lines_after { lines.new ≡ over at (Spec.found_line found) lines.old }
+fn push_found(lines: &mut Text<ITEMS>, found: Result<Option<Item>, NoSheet>)
+    requires { length lines.old ≤ 16500 }
+    ensures { lines.new ≡ pushed 16500 lines.old (Spec.found_line found) }
 {
     match found {
-        Err(_) => at,
-        Ok(None) => at,
-        Ok(Some(item)) => put_item(lines, at, item),
+        Err(_) => {}
+        Ok(None) => {}
+        Ok(Some(item)) => push_item(lines, item),
     }
 }
 
-// Writes the lines of all items of a sheet, and answers the place after them.
-fn put_items(text: &[u8], count: usize, lines: &mut [u8]) -> usize
-    requires { (Ok count ≡ sheet_read text.now) × (16500 ≤ length lines.old) }
-    ensures value { result ≡ length (Spec.item_lines (items_in text.now)) }
-    ensures lines_after { lines.new ≡ over 0 (Spec.item_lines (items_in text.now)) lines.old }
+// The lines of all items of a sheet.
+fn lines_of(text: &[u8], count: usize) -> Text<ITEMS>
+    requires { Ok count ≡ sheet_read text.now }
+    ensures { result ≡ Spec.item_lines (items_in text.now) }
 {
-    let mut at: usize = 0;
+    let mut lines = Text::<ITEMS>::new();
     for i in 0..count {
         let found = reading::read_item(text, i + 1);
-        at = put_found(lines, at, found);
+        push_found(&mut lines, found);
     }
-    at
+    lines
 }
 
 // Reads a sheet and writes a line for each of its items, or the line of a refusal, at the front of the lent bytes; the bytes after it are kept. Where these are too few for
@@ -167,9 +165,8 @@ pub fn read(text: &[u8], out: &mut [u8]) -> Reply
     match answer {
         Err(refusal) => Reply::Told(replies::refused_line(reading::number_of(refusal), out)),
         Ok(count) => {
-            let mut lines = [0u8; ITEMS];
-            let n = put_items(text, count, &mut lines);
-            Reply::Answer(replies::told(&lines[..n], out))
+            let lines = lines_of(text, count);
+            Reply::Answer(replies::told(lines.as_bytes(), out))
         }
     }
 }

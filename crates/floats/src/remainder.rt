@@ -4,14 +4,6 @@ ghost use Rattle.std.specs.Float.{binary32};
 ghost use Rattle.std.specs.Float.Ieee.{rem};
 ghost use Rattle.floats.specs.Units as Spec;
 
-// How many exponent fields stand before the significand: a field of 0 counts as 1.
-fn exponent(p: u32) -> u32
-    ensures { result ≡ Spec.exponent_of p }
-{
-    let f = p / 0x0080_0000;
-    if f == 0 { 0 } else { f - 1 }
-}
-
 // The remainder of a, shifted up by k, by b: 32 digits at a time.
 fn shifted_remainder(a: u64, b: u64, k: u32) -> u64
     requires { (a < 2 ^ 24) × (0 < b) × (b < 2 ^ 24) }
@@ -62,8 +54,9 @@ pub(crate) fn remainder(x: f32, y: f32) -> f32
     if q == 0x7f80_0000 {
         return x;
     }
-    let g = exponent(p);
-    let h = exponent(q);
+    // How many exponent fields stand before each significand: a field of 0 counts as 1.
+    let g = (p / 0x0080_0000).saturating_sub(1);
+    let h = (q / 0x0080_0000).saturating_sub(1);
     if g < h {
         return x;
     }

@@ -1,2 +1,4 @@
+pub mod Chosen
 pub mod Margins
+pub mod Played
 pub mod Refused

@@ -1,6 +1,6 @@
 -- Playing frames in a row: what is kept between frames, and what a frame and a touch of the ball make of it. Each part has the name of the function of the original that it is from, and `update` has
 -- them in the original's order. Definitions only.
-use Rattle.std.specs.Prelude.{Bool, true, false, not, cond, ◌&&◌, List, ℕ, ◌≡◌, eqb, ltb, replicate, Float, Option, None, Some}
+use Rattle.std.specs.Prelude.{Bool, true, false, not, cond, ◌&&◌, List, ℕ, ◌≡◌, eqb, ltb, replicate, Float, Option, None, Some, Result}
 use Rattle.lists.specs.Refusals.{Requirement, first_refusal}
 use Rattle.floats.specs.Arithmetic.{zero32}
 use Rattle.game.specs.Game.{is_shootout, is_set}
@@ -17,6 +17,8 @@ use Rattle.game.specs.declared.Situation.{Situation}
 use Rattle.positioning.specs.Positioning.{is_set_play}
 use Rattle.counts.specs.Counts.{players_on_field}
 use Rattle.kicker.specs.Kicker.{determine_kicking_player}
+use Rattle.refusal.specs.Refusal.{unless_refused}
+use Rattle.refusal.specs.declared.Refusal.{Refusal}
 use Rattle.refusals.specs.Refusals.{field_fits, poses_fit, ball_fits, numbers_fit, distance_fits, five}
 use Rattle.decision.specs.Decision.{side_margins, decision_of, empty_decision}
 use Rattle.restarts.specs.Restarts.{touched_restart, observed_restart, tracked_restart}
@@ -35,7 +37,6 @@ use Rattle.frames.specs.declared.Events.{Events}
 use Rattle.frames.specs.declared.Calls.{Calls}
 use Rattle.frames.specs.declared.Touched.{Touched}
 use Rattle.frames.specs.declared.Framed.{Framed}
-use Rattle.frames.specs.declared.Step.{Step}
 use Rattle.game.specs.declared.Margins.{Margins}
 use Rattle.game.specs.declared.Restart.{Restart}
 
@@ -226,6 +227,13 @@ step_refusal m s e xs ys = first_refusal (step_requirements m s e xs ys)
 unfoldable pub no_calls : Calls
 no_calls = record { touch = None; home = replicate 20 None; away = replicate 20 None }
 
+-- what a step gives: the number of the refusal or 0, the memory after it, the calls and the decision
+pub record Step : Type 0 where
+  pub refusal : ℕ
+  pub memory : Memory
+  pub calls : Calls
+  pub decision : Decision
+
 abbrev pub accepted : Framed → Step
 accepted f = record { refusal = 0; memory = f.memory; calls = f.calls; decision = f.decision }
 
@@ -235,6 +243,10 @@ refused n m = record { refusal = n; memory = m; calls = no_calls; decision = emp
 
 unfoldable pub step_of : Memory → Situation → Events → List Float → List Float → Step
 step_of m s e xs ys = cond (eqb (step_refusal m s e xs ys) 0) (accepted (played_frame m s e xs ys)) (refused (step_refusal m s e xs ys) m)
+
+-- a step by its number: the frame beside 0, otherwise the refusal alone, since the memory stays as it came in
+abbrev pub played : Step → Result Framed Refusal
+played s = unless_refused s.refusal (record { memory = s.memory; calls = s.calls; decision = s.decision })
 
 -- ---- of the private functions
 -- the margins of both sides' players

@@ -2,10 +2,12 @@
 #![tactic(auto)]
 
 ghost use Rattle.std.specs.Prelude.{◌≡◌};
+ghost use Rattle.refusal.specs.Refusal.{unless_refused, number_in};
 ghost use Rattle.frames.specs.Frames as Spec;
 
-use game::{Ball, Decision, Margins, Restart, SetPlay, Side, Situation};
+use game::{Ball, Decision, Earlier, Margins, Restart, SetPlay, Side, Situation};
 use penalties::PlayerCall;
+use refusal::Refusal;
 use remembered::Remembered;
 use restarts::TouchCall;
 
@@ -60,13 +62,13 @@ pub struct Framed {
     pub decision: Decision,
 }
 
-// What a step answers: the number of the refusal or 0, the memory after it, the calls and the decision. A refusal keeps the memory as it came in and has no calls and the empty decision.
+// A frame with the margins of both sides' players in it.
 #[derive(Clone, Copy)]
-pub struct Step {
-    pub refusal: u8,
-    pub memory: Memory,
-    pub calls: Calls,
-    pub decision: Decision,
+struct Measured {
+    s: Situation,
+    home_margins: [Option<Margins>; 20],
+    away_margins: [Option<Margins>; 20],
+    ghost measured: { Spec.AreMargins s home_margins away_margins },
 }
 
 // What is remembered of a side's players.
@@ -107,46 +109,36 @@ fn kept_kicker(begun: bool, kicking_player: Option<u8>) -> Option<u8>
 }
 
 // The kicking player once Set has just begun: chosen anew for the side that kicks.
-fn kicker_in_set(
-    s: Situation,
-    home_margins: [Option<Margins>; 20],
-    away_margins: [Option<Margins>; 20],
-    kicking_player: Option<u8>,
-) -> Option<u8>
-    requires { Spec.AreMargins s home_margins away_margins }
-    ensures { result ≡ Spec.kicker_in_set s.game.kicking_side s kicking_player }
+fn kicker_in_set(frame: Measured, kicking_player: Option<u8>) -> Option<u8>
+    ensures { result ≡ Spec.kicker_in_set frame.s.game.kicking_side frame.s kicking_player }
 {
+    let s = frame.s;
     let game = s.game;
-    let field = s.field;
-    let kicking_side = game.kicking_side;
-    let Some(side) = kicking_side else {
+    if game.kicking_side.is_none() {
         return kicking_player;
-    };
-    match side {
-        Side::Home => {
-            let team = s.home;
-            kicker::determine_kicking_player(game, team, field, home_margins, Side::Home)
-        }
-        Side::Away => {
-            let team = s.away;
-            kicker::determine_kicking_player(game, team, field, away_margins, Side::Away)
-        }
     }
+    let chosen = decision::kicking_player(
+        game,
+        s.home,
+        s.away,
+        s.field,
+        frame.home_margins,
+        frame.away_margins,
+    )?;
+    Some(chosen.number)
 }
 
 // The kicking player after the changes of the game.
 #[tactic(auto, unfolding(crate::specs::Frames::observed_kicker))]
 fn observed_kicker(
-    s: Situation,
+    frame: Measured,
     begun: bool,
     set_begun: bool,
-    home_margins: [Option<Margins>; 20],
-    away_margins: [Option<Margins>; 20],
     kicking_player: Option<u8>,
 ) -> Option<u8>
-    requires { Spec.AreMargins s home_margins away_margins }
-    ensures { result ≡ Spec.observed_kicker s begun set_begun kicking_player }
+    ensures { result ≡ Spec.observed_kicker frame.s begun set_begun kicking_player }
 {
+    let s = frame.s;
     let game = s.game;
     let phase = game.phase;
     let set_play = game.set_play;
@@ -154,23 +146,17 @@ fn observed_kicker(
     let shootout = game::is_shootout(phase);
     let chosen = has_kicking_player(set_play);
     if set_begun & !shootout & chosen {
-        return kicker_in_set(s, home_margins, away_margins, kept);
+        return kicker_in_set(frame, kept);
     }
     kept
 }
 
 // The memory after the changes of the game and the frame's poses and ball, up to penalize_players.
 #[tactic(auto, unfolding(crate::specs::Frames::update, crate::specs::Frames::update_avoidance, crate::specs::Frames::update_returning, crate::specs::Frames::track_ball, crate::specs::Frames::detect_movement, crate::specs::Frames::observe, remembered::specs::Remembered::framed_players))]
-fn updated(
-    memory: Memory,
-    s: Situation,
-    events: Events,
-    home_margins: [Option<Margins>; 20],
-    away_margins: [Option<Margins>; 20],
-) -> Memory
-    requires { Spec.AreMargins s home_margins away_margins }
-    ensures { result ≡ Spec.update s events memory }
+fn updated(memory: Memory, frame: Measured, events: Events) -> Memory
+    ensures { result ≡ Spec.update frame.s events memory }
 {
+    let s = frame.s;
     let game = s.game;
     let field = s.field;
     let ball = s.ball;
@@ -181,7 +167,7 @@ fn updated(
     let ended = events.set_play_ended & !on;
     let set_begun = events.set_begun & game::is_set(state);
     let kicker = memory.kicking_player;
-    let kicking_player = observed_kicker(s, begun, set_begun, home_margins, away_margins, kicker);
+    let kicking_player = observed_kicker(frame, begun, set_begun, kicker);
     let before = memory.restart;
     let observed = restarts::observed(game, begun, ended, set_begun, before);
     let restart = restarts::tracked(observed, ball);
@@ -196,7 +182,7 @@ fn updated(
         ball,
         Side::Home,
         home_team,
-        home_margins,
+        frame.home_margins,
         h,
     );
     let away = remembered::framed_players(
@@ -206,7 +192,7 @@ fn updated(
         ball,
         Side::Away,
         away_team,
-        away_margins,
+        frame.away_margins,
         a,
     );
     Memory {
@@ -230,48 +216,27 @@ fn contact_by(touch: Option<Touch>, last_contact: Option<Side>) -> Option<Side>
 fn judged_frame(s: Situation, touch: Option<Touch>, memory: Memory) -> Situation
     ensures { result ≡ Spec.judged_frame s touch memory }
 {
-    let field = s.field;
-    let game = s.game;
-    let home_team = s.home;
-    let away_team = s.away;
-    let h = memory.home;
-    let a = memory.away;
-    let home = remembered::judged_team(home_team, h);
-    let away = remembered::judged_team(away_team, a);
-    let ball = s.ball;
-    let last = s.last_contact;
-    let last_contact = contact_by(touch, last);
-    let restart = memory.restart;
-    let wish = s.wish;
     Situation {
-        field,
-        penalty_placement_distance: s.penalty_placement_distance,
-        game,
-        home,
-        away,
-        ball,
-        last_contact,
-        restart,
-        invalid_goals_judged: s.invalid_goals_judged,
-        ball_rested: s.ball_rested,
-        wish,
+        home: remembered::judged_team(s.home, memory.home),
+        away: remembered::judged_team(s.away, memory.away),
+        last_contact: contact_by(touch, s.last_contact),
+        restart: memory.restart,
+        ..s
     }
 }
 
 // Penalises the players of both sides, Home first, by the decision on the frame as it is judged. The first side may name the kicking player.
 #[tactic(auto, unfolding(crate::specs::Frames::penalize_players, crate::specs::Frames::penalize_side))]
 fn penalized(
-    judged: Situation,
+    frame: Measured,
     grace_over: bool,
     call: Option<TouchCall>,
     decision: Decision,
     memory: Memory,
-    home_margins: [Option<Margins>; 20],
-    away_margins: [Option<Margins>; 20],
 ) -> Framed
-    requires { Spec.AreMargins judged home_margins away_margins }
-    ensures { result ≡ Spec.penalize_players judged grace_over call decision memory }
+    ensures { result ≡ Spec.penalize_players frame.s grace_over call decision memory }
 {
+    let judged = frame.s;
     let game = judged.game;
     let field = judged.field;
     let home_team = judged.home;
@@ -288,17 +253,13 @@ fn penalized(
     let hp = penalties::penalize_players(game, field, home_team, hv, he, h, grace_over, kicker);
     let named = hp.kicking_player;
     let ap = penalties::penalize_players(game, field, away_team, av, ae, a, grace_over, named);
-    let kicking_player = ap.kicking_player;
-    let home = penalties::inside_players(home_team, home_margins, h);
-    let away = penalties::inside_players(away_team, away_margins, a);
-    let restart = memory.restart;
-    let ball = memory.ball;
+    let home = penalties::inside_players(home_team, frame.home_margins, h);
+    let away = penalties::inside_players(away_team, frame.away_margins, a);
     let next = Memory {
         home,
         away,
-        kicking_player,
-        restart,
-        ball,
+        kicking_player: ap.kicking_player,
+        ..memory
     };
     let hc = hp.calls;
     let ac = ap.calls;
@@ -351,65 +312,68 @@ impl Memory {
         ensures { result ≡ Spec.ball_contact touch s self }
     {
         let Some(t) = touch.filter(|t| t.is_new) else {
-            let call = None;
-            return Touched { memory: self, call };
+            return Touched {
+                memory: self,
+                call: None,
+            };
         };
         let side = t.side;
         let number = t.number;
         let players = players_before(self, s, side);
-        let game = s.game;
-        let field = s.field;
-        let home = self.home;
-        let away = self.away;
-        let kicking_player = self.kicking_player;
-        let before = self.restart;
-        let ball = self.ball;
-        let touched = restarts::touched(game, field, ball, side, number, players, before);
-        let restart = touched.restart;
-        let call = touched.call;
+        let touched = restarts::touched(
+            s.game,
+            s.field,
+            self.ball,
+            side,
+            number,
+            players,
+            self.restart,
+        );
         let memory = Memory {
-            home,
-            away,
-            kicking_player,
-            restart,
-            ball,
+            restart: touched.restart,
+            ..self
         };
-        Touched { memory, call }
+        Touched {
+            memory,
+            call: touched.call,
+        }
     }
 
     // A frame after its touch, as update up to penalize_players; what the touch called is handed on.
     #[tactic(auto, unfolding(crate::specs::Frames::frame_of))]
-    pub fn frame<'a>(
+    pub fn frame(
         self,
         s: Situation,
         events: Events,
-        xs: &'a [f32],
-        ys: &'a [f32],
+        earlier: Earlier<'_>,
         call: Option<TouchCall>,
     ) -> Framed
-        ensures { result ≡ Spec.frame_of s events xs.now ys.now call self }
+        ensures { result ≡ Spec.frame_of s events earlier.entry.xs.now earlier.entry.ys.now call self }
     {
         let game = s.game;
         let field = s.field;
         let home_team = s.home;
         let away_team = s.away;
+        // As decision_of begins: a function of both sides would give two of Seen in a struct, which each caller takes apart again.
         let home_seen = seen::side_seen(game, field, Side::Home, home_team);
         let away_seen = seen::side_seen(game, field, Side::Away, away_team);
         let home_margins = home_seen.margins;
         let away_margins = away_seen.margins;
-        let next = updated(self, s, events, home_margins, away_margins);
-        let touch = events.touch;
-        let judged = judged_frame(s, touch, next);
-        let d = decision::decision_of(judged, xs, ys);
-        penalized(
-            judged,
-            events.grace_over,
-            call,
-            d,
-            next,
+        let measured = Measured {
+            s,
             home_margins,
             away_margins,
-        )
+        };
+        let next = updated(self, measured, events);
+        let touch = events.touch;
+        let judged = judged_frame(s, touch, next);
+        let d = decision::decision_of(judged, earlier);
+        let measured_again = Measured {
+            s: judged,
+            home_margins,
+            away_margins,
+        };
+        penalized(measured_again, events.grace_over, call, d, next)
     }
 }
 
@@ -420,33 +384,27 @@ fn toucher(touch: Option<Touch>) -> Option<u8>
     touch.map(|t| t.number)
 }
 
-// The lower of two refusals, of which 0 is none.
-fn lower(a: u8, b: u8) -> u8
-    ensures { result ≡ Spec.lower a b }
+// The lower of two refusals, where there is one.
+fn lower(a: Result<(), Refusal>, b: Result<(), Refusal>) -> Result<(), Refusal>
+    ensures { result ≡ unless_refused (Spec.lower (number_in a) (number_in b)) tt }
 {
-    if a == 0 {
-        return b;
+    match (a, b) {
+        (Err(x), Err(y)) => Err(x.min(y)),
+        (Ok(()), told) => told,
+        (told, Ok(())) => told,
     }
-    if b == 0 {
-        return a;
-    }
-    if a < b {
-        return a;
-    }
-    b
 }
 
-// The number of the first refusal of a step, or 0 for none.
-fn step_refusal<'a>(
+// The first refusal of a step, where there is one.
+fn step_refusal(
     memory: Memory,
     s: Situation,
     events: Events,
-    xs: &'a [f32],
-    ys: &'a [f32],
-) -> u8
-    ensures { result ≡ Spec.step_refusal memory s events xs.now ys.now }
+    earlier: Earlier<'_>,
+) -> Result<(), Refusal>
+    ensures { result ≡ unless_refused (Spec.step_refusal memory s events earlier.entry.xs.now earlier.entry.ys.now) tt }
 {
-    let of_frame = refusal::number_in(refusals::refusal(s, xs, ys));
+    let of_frame = refusals::refusal(s, earlier);
     let home = memory.home;
     let away = memory.away;
     let ball = memory.ball;
@@ -458,48 +416,19 @@ fn step_refusal<'a>(
     lower(of_frame, of_memory)
 }
 
-// Nobody is called.
-#[tactic(auto, unfolding(crate::specs::Frames::no_calls))]
-fn no_calls() -> Calls
-    ensures { result ≡ Spec.no_calls }
+// Plays one frame, a step: the touch, then the frame. Beside a refusal the memory stays as the caller has it.
+pub fn play(
+    memory: Memory,
+    s: Situation,
+    events: Events,
+    earlier: Earlier<'_>,
+) -> Result<Framed, Refusal>
+    ensures { result ≡ Spec.played (Spec.step_of memory s events earlier.entry.xs.now earlier.entry.ys.now) }
 {
-    let touch = None;
-    let nobody = [None; 20];
-    Calls {
-        touch,
-        home: nobody,
-        away: nobody,
-    }
-}
-
-// Plays one frame, a step: the touch, then the frame. A refusal keeps the memory as it came in.
-#[tactic(auto, unfolding(crate::specs::Frames::step_of, crate::specs::Frames::played_frame))]
-pub fn play<'a>(memory: Memory, s: Situation, events: Events, xs: &'a [f32], ys: &'a [f32]) -> Step
-    ensures { result ≡ Spec.step_of memory s events xs.now ys.now }
-{
-    let refusal = step_refusal(memory, s, events, xs, ys);
-    if refusal != 0 {
-        let calls = no_calls();
-        let decision = decision::empty_decision();
-        return Step {
-            refusal,
-            memory,
-            calls,
-            decision,
-        };
-    }
+    step_refusal(memory, s, events, earlier)?;
     let touch = events.touch;
     let touched = memory.touch(s, touch);
     let after = touched.memory;
     let call = touched.call;
-    let framed = after.frame(s, events, xs, ys, call);
-    let next = framed.memory;
-    let calls = framed.calls;
-    let decision = framed.decision;
-    Step {
-        refusal: 0,
-        memory: next,
-        calls,
-        decision,
-    }
+    Ok(after.frame(s, events, earlier, call))
 }

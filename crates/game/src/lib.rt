@@ -198,7 +198,7 @@ pub struct Situation {
     pub wish: Wish,
 }
 
-// A list of players of one side by their numbers: the first `count` of the array, the rest of it 0.
+// A list of players of one side by their numbers: the first `count` of the array, the rest of it 0. There is no heap: it has room for all players of a side, and counts those that it has.
 #[derive(Clone, Copy)]
 pub struct PlayerList {
     pub count: usize,
@@ -244,6 +244,13 @@ pub enum Placement {
         y: f32,
         theta: f32,
     },
+}
+
+// The places that were given before in the same batch, which a new place keeps its distance from: the x of each, and the y.
+#[derive(Clone, Copy)]
+pub struct Earlier<'a> {
+    pub xs: &'a [f32],
+    pub ys: &'a [f32],
 }
 
 // The items that each side has of its own.

@@ -24,7 +24,7 @@ use Rattle.game.specs.declared.SideMapping.{SideMapping}
 use Rattle.game.specs.declared.SideMapping.TheVariants.{HomeDefendsLeftGoal, HomeDefendsRightGoal}
 use Rattle.game.specs.declared.Team.{Team}
 use Rattle.geometry.specs.Geometry.{side_to_sign, strip_margin, margins_of, seen_margins, player_margins, compute_margins, carpet_excess, seen_leaving, is_leaving_the_field, is_on_own_goal_line}
-use Rattle.geometry.specs.Turned.{signed, changed_pose, changed_seen, changed_player, changed_team, changed_ends}
+use Rattle.geometry.specs.Turned.{signed, changed_pose, changed_maybe_pose, changed_player, changed_team, changed_ends}
 use Rattle.std.specs.Prelude.{Option, None, Some}
 
 -- ---- signs, for whatever is measured by them
@@ -82,7 +82,7 @@ unfolding margins_of
 margins_changed a b p f s =
     cc (team_changed a s p.x, strip_changed a b f.goal_area_width p, strip_changed a b f.penalty_area_width p)
 
-pub seen_margins_changed : (a b : Bool) (p : Option PlayerPose) (f : FieldDimensions) (s : Float) → seen_margins (changed_seen a b p) f (signed a s) ≡ seen_margins p f s
+pub seen_margins_changed : (a b : Bool) (p : Option PlayerPose) (f : FieldDimensions) (s : Float) → seen_margins (changed_maybe_pose a b p) f (signed a s) ≡ seen_margins p f s
 seen_margins_changed a b None f s = refl
 seen_margins_changed a b (Some p) f s = ap Some (margins_changed a b p f s)
 
@@ -107,7 +107,7 @@ compute_margins_changed a b t f s = table_same 20 (λ i. player_margins (player_
 pub carpet_changed : (a b : Bool) (p : PlayerPose) (f : FieldDimensions) → carpet_excess (changed_pose a b p) f ≡ carpet_excess p f
 carpet_changed a b p f = cc (abs_changed a p.x, abs_changed b p.y)
 
-seen_leaving_changed : (a b : Bool) (p : Option PlayerPose) (f : FieldDimensions) (allowance : Float) → seen_leaving (changed_seen a b p) f allowance ≡ seen_leaving p f allowance
+seen_leaving_changed : (a b : Bool) (p : Option PlayerPose) (f : FieldDimensions) (allowance : Float) → seen_leaving (changed_maybe_pose a b p) f allowance ≡ seen_leaving p f allowance
 seen_leaving_changed a b None f allowance = refl
 seen_leaving_changed a b (Some p) f allowance = cc (carpet_changed a b p f)
 

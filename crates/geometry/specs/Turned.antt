@@ -19,22 +19,17 @@ signed false x = x
 abbrev pub changed_pose : Bool → Bool → PlayerPose → PlayerPose
 changed_pose a b p = record { x = signed a p.x; y = signed b p.y; theta = p.theta; radius = p.radius }
 
--- a pose that may be missing
-abbrev pub changed_seen : Bool → Bool → Option PlayerPose → Option PlayerPose
-changed_seen a b None = None
-changed_seen a b (Some p) = Some (changed_pose a b p)
-
--- a reference pose that may be missing
-abbrev pub changed_reference : Bool → Bool → Option PlayerPose → Option PlayerPose
-changed_reference a b None = None
-changed_reference a b (Some p) = Some (changed_pose a b p)
+-- a pose that may be missing, seen or for motion
+abbrev pub changed_maybe_pose : Bool → Bool → Option PlayerPose → Option PlayerPose
+changed_maybe_pose a b None = None
+changed_maybe_pose a b (Some p) = Some (changed_pose a b p)
 
 -- both poses of a player
 abbrev pub changed_player : Bool → Bool → Player → Player
 changed_player a b q =
     record {
-      pose = changed_seen a b q.pose;
-      reference = changed_reference a b q.reference;
+      pose = changed_maybe_pose a b q.pose;
+      reference = changed_maybe_pose a b q.reference;
       penalty = q.penalty;
       allowance = q.allowance;
       previously_inside = q.previously_inside;

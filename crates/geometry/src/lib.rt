@@ -97,16 +97,11 @@ pub fn carpet_excess(pose: PlayerPose, field: FieldDimensions) -> f32
 pub fn is_leaving_the_field(player: Player, field: FieldDimensions, allowance: f32) -> bool
     ensures { result ≡ Spec.is_leaving_the_field player field allowance }
 {
-    let penalty = player.penalty;
-    let pose = player.pose;
-    match pose {
-        None => false,
-        Some(p) => {
-            let unpenalized = game::is_unpenalized(penalty);
-            let excess = carpet_excess(p, field);
-            unpenalized & (excess > allowance)
-        }
-    }
+    let unpenalized = game::is_unpenalized(player.penalty);
+    player.pose.is_some_and(|pose| {
+        let excess = carpet_excess(pose, field);
+        unpenalized & (excess > allowance)
+    })
 }
 
 // Whether a player is between the posts of its own goal and over the middle of the goal line.

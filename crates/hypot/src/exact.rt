@@ -1,22 +1,8 @@
 // The exact path of hypot, in whole numbers: a pattern with the sign's bit off stands for e exponent fields and a significand.
-ghost use Rattle.std.specs.Prelude.{◌≡◌, ℕ, ◌+◌, ◌-◌, ◌*◌, ◌/◌, ◌^◌, ◌<◌, ◌≤◌, min, max, nat_le};
+ghost use Rattle.std.specs.Prelude.{◌≡◌, ℕ, ◌+◌, ◌-◌, ◌*◌, ◌^◌, ◌<◌, ◌≤◌, min, max, nat_le};
 ghost use Rattle.hypot.specs.Hypot.{units_of, square, nearest_root};
 ghost use Rattle.hypot.specs.Hypot as Spec;
 ghost use Rattle.hypot.specs.Steps.{Rooted, Packed};
-
-// The larger of two patterns.
-pub(crate) fn larger(p: u32, q: u32) -> u32
-    ensures { result ≡ max p q }
-{
-    if q <= p { p } else { q }
-}
-
-// The smaller of two patterns.
-fn smaller(p: u32, q: u32) -> u32
-    ensures { result ≡ min p q }
-{
-    if q <= p { q } else { p }
-}
 
 // Whether two patterns with the sign's bit off are 14 exponent fields or more apart. A difference that wraps serves both orders in one comparison.
 pub(crate) fn far_apart(p: u32, q: u32) -> bool
@@ -61,21 +47,7 @@ fn root(s: u64) -> u64
     t
 }
 
-// How many exponent fields stand before the significand: a field of 0 counts as 1.
-fn exponent(p: u32) -> u32
-    ensures { result ≡ p / 8388608 - 1 }
-{
-    let f = p / 8388608;
-    if f == 0 { 0 } else { f - 1 }
-}
-
-// At most the infinity's pattern.
-fn capped(b: u32) -> u32
-    ensures { result ≡ min b 0x7f80_0000 }
-{
-    if b < 0x7f80_0000 { b } else { 0x7f80_0000 }
-}
-
+// x is 1 where something is left over, else 0: a number, since `packed` takes it as the last binary digit, 2 * t + x.
 #[derive(Clone, Copy)]
 struct Found {
     t: u64,
@@ -99,16 +71,16 @@ fn rooted(a: u64, b: u64, k: u32) -> Found
     Found { t, x: 1 }
 }
 
-// The pattern of t and x, rounded to the nearest, a tie to the even one.
+// The pattern of t and x, rounded to the nearest, a tie to the even one, and at most the infinity's.
 fn packed(e: u32, t: u64, x: u64) -> u32
     requires { (e < 254) × (t < 67108864) × (x < 2) }
     ensures { Packed e t x result }
 {
     let w = 2 * t + x;
     if t < 33554432 {
-        capped(e * 8388608 + ((w + 1 + w / 4 % 2) / 4) as u32)
+        (e * 8388608 + ((w + 1 + w / 4 % 2) / 4) as u32).min(0x7f80_0000)
     } else {
-        capped(e * 8388608 + 8388608 + ((w + 3 + w / 8 % 2) / 8) as u32)
+        (e * 8388608 + 8388608 + ((w + 3 + w / 8 % 2) / 8) as u32).min(0x7f80_0000)
     }
 }
 
@@ -120,8 +92,9 @@ fn nearest(p: u32, q: u32) -> u32
     if q == 0 {
         return p;
     }
-    let e = exponent(p);
-    let g = exponent(q);
+    // How many exponent fields stand before each significand: a field of 0 counts as 1.
+    let e = (p / 8388608).saturating_sub(1);
+    let g = (q / 8388608).saturating_sub(1);
     let d = e - g;
     let far = d > 12;
     if far {
@@ -151,8 +124,8 @@ pub(crate) fn exact(x: f32, y: f32) -> f32
 {
     let p = floats::bits(x) % 0x8000_0000;
     let q = floats::bits(y) % 0x8000_0000;
-    let hi = larger(p, q);
-    let lo = smaller(p, q);
+    let hi = p.max(q);
+    let lo = p.min(q);
     if hi < 0x7f80_0000 {
         return f32::from_bits(nearest(hi, lo));
     }

@@ -42,7 +42,7 @@ pub fn hypot(x: f32, y: f32) -> f32
             let p = f32::to_bits(x) % 0x8000_0000;
             let q = f32::to_bits(y) % 0x8000_0000;
             if exact::far_apart(p, q) {
-                return f32::from_bits(exact::larger(p, q));
+                return f32::from_bits(p.max(q));
             }
             // Past this sum one of the two is a normal number, and so is the root.
             if p + q <= 0x0100_0000 {

@@ -8,7 +8,7 @@ use borrow.Author.Tests.{ltb-false, leb-true, leb-false}
 use lib.Dec.{ltb, leb}
 use lib.ListN.{length, take, get_or, length-take, get_or-append}
 use lib.Seq.{take_all, take-append-le, get_or-take, take-take}
-use Rattle.std.specs.Prelude.{Result, Ok}
+use Rattle.std.specs.Prelude.{Result, Ok, Err}
 use Rattle.lists.specs.Put.{fronted}
 use Rattle.columns.specs.Layout.{word_count}
 use Rattle.columns.specs.Columns.{words_within}
@@ -18,7 +18,7 @@ use Rattle.numbers.proofs.Count.{read_count}
 use Rattle.input.specs.declared.Lists.{Lists}
 use Rattle.input.specs.declared.Wrong.{Wrong}
 use Rattle.input.specs.declared.Fault.TheVariants.{LongList, Missing, Outside}
-use Rattle.input.specs.Input.{wrong_at, most_places, count_x, count_y, most_numbers, after_counts, after_x, after_words, with_words, laid_out, input_of}
+use Rattle.input.specs.Input.{wrong_at, most_places, count_x, count_y, most_numbers, after_counts, after_x, after_words, with_words, wrong_of, laid_out, input_of}
 
 -- ---- a number, and a front
 module _ (ns buffer : List ℕ) where
@@ -88,3 +88,8 @@ input_of_read text buffer ms n r l e em er =
     er ∙ ap (λ (l : List ℕ). with_words l n (words_within (take (min n word_count) l))) em
     ∙ stored_laid_out (numbers_of text) buffer n (read_count text (Ok n) e) l
     ∙ ap (λ (g : Result ℕ Unread). laid_out g (numbers_of text)) (sym e)
+
+-- of a text that is not read
+pub input_of_unread : (text : List ℕ) (u : Unread) → reading_of text ≡ Err u → Err (wrong_of u) ≡ input_of text
+unfolding input_of
+input_of_unread text u e = ap (λ (g : Result ℕ Unread). laid_out g (numbers_of text)) (sym e)

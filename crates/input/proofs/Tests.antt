@@ -1,12 +1,17 @@
 -- What each test on the numbers says of the definition, in their order. Assumes nothing.
-use mathlib.Core.Path.{◌≡◌}
+use mathlib.Core.Path.{◌≡◌, ap}
+use mathlib.Core.Bool.{Bool, true, false, cond}
 use mathlib.Core.List.{List}
 use Prim.Native.Nat.{ℕ, ◌≤◌, ◌<◌, min}
-use borrow.Author.Tests.{lt-ltb, le-ltb, le-leb, lt-leb}
+use borrow.Author.Tests.{lt-ltb, le-ltb}
+use lib.Dec.{leb, ltb}
 use lib.ListN.{get_or}
+use Rattle.std.specs.Prelude.{Result, Ok, Err}
 use Rattle.columns.specs.Layout.{word_count}
+use Rattle.input.specs.declared.Lists.{Lists}
+use Rattle.input.specs.declared.Wrong.{Wrong}
 use Rattle.input.specs.declared.Fault.TheVariants.{Outside, LongList, Missing, Extra}
-use Rattle.input.specs.Input.{lists_of, wrong_at, most_places, count_x, count_y, numbers_for, after_counts, after_x, after_words, with_words}
+use Rattle.input.specs.Input.{lists_of, wrong_at, most_places, numbers_for, after_counts, with_list, after_words, with_words}
 
 module _ (n nx ny : ℕ) where
   pub too_few : n < numbers_for nx ny → wrong_at n Missing ≡ after_counts n nx ny
@@ -21,31 +26,25 @@ module _ (n nx ny : ℕ) where
   unfolding after_counts
   just_so_many g h = simp (le-ltb _ _ g, le-ltb _ _ h)
 
+-- the number of a list
+module _ (n at k : ℕ) (next : ℕ → Result Lists Wrong) where
+  wrong_on : (w : Wrong) (a b : Bool) → Err w ≡ cond a (wrong_at n Missing) (cond b (wrong_at at LongList) (Ok k)) → Err w ≡ cond a (wrong_at n Missing) (cond b (wrong_at at LongList) (next k))
+  wrong_on w true b e = let same : ◌≡◌ {A = Wrong} w (record { place = n; fault = Missing }) = cc in ap Err same
+  wrong_on w false true e = let same : ◌≡◌ {A = Wrong} w (record { place = at; fault = LongList }) = cc in ap Err same
+  wrong_on w false false e = absurd cc
+
+  known_on : (l : ℕ) (a b : Bool) → Ok l ≡ cond a (wrong_at n Missing) (cond b (wrong_at at LongList) (Ok k)) → next l ≡ cond a (wrong_at n Missing) (cond b (wrong_at at LongList) (next k))
+  known_on l true b e = absurd cc
+  known_on l false true e = absurd cc
+  known_on l false false e = let same : l ≡ k = cc in ap next same
+
 module _ (ns : List ℕ) (n : ℕ) where
-  module _ (nx : ℕ) where
-    pub y_missing : n ≤ count_y nx → wrong_at n Missing ≡ after_x ns n nx
-    unfolding after_x
-    y_missing h = simp (le-leb _ _ h)
+  -- what is wrong with it, and what comes after it
+  pub list_wrong : (at : ℕ) (next : ℕ → Result Lists Wrong) (w : Wrong) → Err w ≡ with_list ns n at Ok → Err w ≡ with_list ns n at next
+  list_wrong at next w e = wrong_on n at (get_or ns at 0) next w (leb n at) (ltb most_places (get_or ns at 0)) e
 
-    pub y_long : (ny : ℕ) → ny ≡ get_or ns (count_y nx) 0 → count_y nx < n → most_places < ny → wrong_at (count_y nx) LongList ≡ after_x ns n nx
-    unfolding after_x
-    y_long ny e g h = rw (← e) (simp (lt-leb _ _ g, lt-ltb _ _ h))
-
-    pub y_counted : (ny : ℕ) → ny ≡ get_or ns (count_y nx) 0 → count_y nx < n → ny ≤ most_places → after_counts n nx ny ≡ after_x ns n nx
-    unfolding after_x
-    y_counted ny e g h = rw (← e) (simp (lt-leb _ _ g, le-ltb _ _ h))
-
-  pub x_missing : n ≤ count_x → wrong_at n Missing ≡ after_words ns n
-  unfolding after_words
-  x_missing h = simp (le-leb _ _ h)
-
-  pub x_long : (nx : ℕ) → nx ≡ get_or ns count_x 0 → count_x < n → most_places < nx → wrong_at count_x LongList ≡ after_words ns n
-  unfolding after_words
-  x_long nx e g h = rw (← e) (simp (lt-leb _ _ g, lt-ltb _ _ h))
-
-  pub x_counted : (nx : ℕ) → nx ≡ get_or ns count_x 0 → count_x < n → nx ≤ most_places → after_x ns n nx ≡ after_words ns n
-  unfolding after_words
-  x_counted nx e g h = rw (← e) (simp (lt-leb _ _ g, le-ltb _ _ h))
+  pub list_known : (at : ℕ) (next : ℕ → Result Lists Wrong) (l : ℕ) → Ok l ≡ with_list ns n at Ok → next l ≡ with_list ns n at next
+  list_known at next l e = known_on n at (get_or ns at 0) next l (leb n at) (ltb most_places (get_or ns at 0)) e
 
   pub outside : (w : ℕ) → w < min n word_count → wrong_at w Outside ≡ with_words ns n w
   unfolding with_words

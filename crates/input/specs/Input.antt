@@ -40,34 +40,43 @@ numbers_for nx ny = first_y + nx + ny
 abbrev pub most_numbers : ℕ
 most_numbers = first_y + 2 * most_places
 
--- the answer where there are nx earlier x and ny earlier y, and where something is wrong with the number i
+-- the answer where there are nx earlier x and ny earlier y
 abbrev pub lists_of : ℕ → ℕ → Result Lists Wrong
 lists_of nx ny = Ok (record { xs = nx; ys = ny })
 
-abbrev pub wrong_at : ℕ → Fault → Result Lists Wrong
+-- the fault of the number at a place
+abbrev pub wrong_at : {A : Type 0} → ℕ → Fault → Result A Wrong
 wrong_at i fault = Err (record { place = i; fault = fault })
 
 -- with nx earlier x and ny earlier y there must be just so many numbers
 unfoldable pub after_counts : ℕ → ℕ → ℕ → Result Lists Wrong
 after_counts n nx ny = cond (ltb n (numbers_for nx ny)) (wrong_at n Missing) (cond (ltb (numbers_for nx ny) n) (wrong_at (numbers_for nx ny) Extra) (lists_of nx ny))
 
+-- what comes after the number of a list, which stands at a place; it may be missing, or more than the most
+abbrev pub with_list : {A : Type 0} → List ℕ → ℕ → ℕ → (ℕ → Result A Wrong) → Result A Wrong
+with_list ns n at next = cond (leb n at) (wrong_at n Missing) (cond (ltb most_places (get_or ns at 0)) (wrong_at at LongList) (next (get_or ns at 0)))
+
 -- with nx earlier x: the number after these is that of the earlier y
 unfoldable pub after_x : List ℕ → ℕ → ℕ → Result Lists Wrong
-after_x ns n nx = cond (leb n (count_y nx)) (wrong_at n Missing) (cond (ltb most_places (get_or ns (count_y nx) 0)) (wrong_at (count_y nx) LongList) (after_counts n nx (get_or ns (count_y nx) 0)))
+after_x ns n nx = with_list ns n (count_y nx) (λ ny. after_counts n nx ny)
 
 -- the number after the words is that of the earlier x
 unfoldable pub after_words : List ℕ → ℕ → Result Lists Wrong
-after_words ns n = cond (leb n count_x) (wrong_at n Missing) (cond (ltb most_places (get_or ns count_x 0)) (wrong_at count_x LongList) (after_x ns n (get_or ns count_x 0)))
+after_words ns n = with_list ns n count_x (λ nx. after_x ns n nx)
 
 -- w words are within their columns before the first that is not; these must be all the words that are there
 unfoldable pub with_words : List ℕ → ℕ → ℕ → Result Lists Wrong
 with_words ns n w = cond (ltb w (min n word_count)) (wrong_at w Outside) (after_words ns n)
 
+-- what is wrong where a text is not read
+abbrev pub wrong_of : Unread → Wrong
+wrong_of (Numbers.NotANumber i) = record { place = i; fault = NotANumber }
+wrong_of (Numbers.TooLarge i) = record { place = i; fault = TooLarge }
+
 -- what a text is by its reading and its numbers; of a whole reading, the words come first
 abbrev pub laid_out : Result ℕ Unread → List ℕ → Result Lists Wrong
 laid_out (Ok n) ns = with_words ns n (words_within (take word_count ns))
-laid_out (Err (Numbers.NotANumber i)) ns = wrong_at i NotANumber
-laid_out (Err (Numbers.TooLarge i)) ns = wrong_at i TooLarge
+laid_out (Err unread) ns = Err (wrong_of unread)
 
 -- how many earlier x and earlier y a text has, or what is wrong with it
 unfoldable pub input_of : List ℕ → Result Lists Wrong

@@ -1,7 +1,7 @@
 // A situation from a text of decimal numbers: its words, then the number of earlier x and their patterns, then the number of earlier y and theirs.
 #![tactic(auto)]
 
-ghost use Rattle.std.specs.Prelude.{◌≡◌, min, length, take};
+ghost use Rattle.std.specs.Prelude.{◌≡◌, ◌<◌, ◌≤◌, ⊤, MatchResult, min, length, take};
 ghost use Rattle.columns.specs.Layout.{word_count};
 ghost use Rattle.columns.specs.Columns.{words_within};
 ghost use Rattle.numbers.specs.Numbers.{numbers_of, stored};
@@ -50,6 +50,39 @@ pub const FIRST_Y: usize = WORDS + 2;
 // The most numbers that an input has: the words, two counts and two lists.
 pub const NUMBERS: usize = FIRST_Y + 2 * PLACES;
 
+impl From<Unread> for Wrong {
+    ghost from_gives = { λ unread wrong. wrong ≡ Spec.wrong_of unread };
+
+    fn from(unread: Unread) -> Self {
+        match unread {
+            Unread::NotANumber(place) => wrong_at(place, Fault::NotANumber),
+            Unread::TooLarge(place) => wrong_at(place, Fault::TooLarge),
+        }
+    }
+}
+
+fn wrong_at(place: usize, fault: Fault) -> Wrong
+    ensures { result ≡ record { place = place; fault = fault } }
+{
+    Wrong { place, fault }
+}
+
+// How long a list is, by the number at a place, which is to be one of the n.
+fn list_length(numbers: &[u32], n: usize, at: usize) -> Result<usize, Wrong>
+    requires { at < length numbers.now }
+    ensures value { result ≡ Spec.with_list numbers.now n at Ok }
+    ensures few { MatchResult result (λ k. k ≤ Spec.most_places) (λ _. ⊤) }
+{
+    if n <= at {
+        return Err(wrong_at(n, Fault::Missing));
+    }
+    let count = numbers[at] as usize;
+    if PLACES < count {
+        return Err(wrong_at(at, Fault::LongList));
+    }
+    Ok(count)
+}
+
 // The answer for n numbers: those of the words that are there must be within their columns, the number after the words is that of the earlier x, and the one after these
 // that of the earlier y.
 fn laid_out(numbers: &[u32], n: usize) -> Result<Lists, Wrong>
@@ -59,54 +92,18 @@ fn laid_out(numbers: &[u32], n: usize) -> Result<Lists, Wrong>
     let there = n.min(WORDS);
     let w = columns::words_within(&numbers[..there]);
     if w < there {
-        return Err(Wrong {
-            place: w,
-            fault: Fault::Outside,
-        });
+        return Err(wrong_at(w, Fault::Outside));
     }
-    if n <= WORDS {
-        return Err(Wrong {
-            place: n,
-            fault: Fault::Missing,
-        });
-    }
-    let nx = numbers[WORDS] as usize;
-    let long_x = PLACES < nx;
-    if long_x {
-        return Err(Wrong {
-            place: WORDS,
-            fault: Fault::LongList,
-        });
-    }
-    let at = FIRST_X + nx;
-    if n <= at {
-        return Err(Wrong {
-            place: n,
-            fault: Fault::Missing,
-        });
-    }
-    let ny = numbers[at] as usize;
-    let long_y = PLACES < ny;
-    if long_y {
-        return Err(Wrong {
-            place: at,
-            fault: Fault::LongList,
-        });
-    }
-    let all = FIRST_Y + nx + ny;
+    let xs = list_length(numbers, n, WORDS)?;
+    let ys = list_length(numbers, n, FIRST_X + xs)?;
+    let all = FIRST_Y + xs + ys;
     if n < all {
-        return Err(Wrong {
-            place: n,
-            fault: Fault::Missing,
-        });
+        return Err(wrong_at(n, Fault::Missing));
     }
     if all < n {
-        return Err(Wrong {
-            place: all,
-            fault: Fault::Extra,
-        });
+        return Err(wrong_at(all, Fault::Extra));
     }
-    Ok(Lists { xs: nx, ys: ny })
+    Ok(Lists { xs, ys })
 }
 
 // Reads the text's numbers into the lent array, as many as it has room for, and answers for them all. Of a text with a fault that is no number, those before it are stored.
@@ -115,17 +112,8 @@ pub fn read_input(text: &[u8], numbers: &mut [u32; NUMBERS]) -> Result<Lists, Wr
     ensures value { result ≡ Spec.input_of text.now }
     ensures numbers_after { numbers.new ≡ stored (numbers_of text.now) numbers.old }
 {
-    match numbers::read_numbers(text, numbers) {
-        Ok(n) => laid_out(numbers, n),
-        Err(Unread::NotANumber(i)) => Err(Wrong {
-            place: i,
-            fault: Fault::NotANumber,
-        }),
-        Err(Unread::TooLarge(i)) => Err(Wrong {
-            place: i,
-            fault: Fault::TooLarge,
-        }),
-    }
+    let n = numbers::read_numbers(text, numbers)?;
+    laid_out(numbers, n)
 }
 
 // Puts the floats of the patterns at the places' front, as many as both have.

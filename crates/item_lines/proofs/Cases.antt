@@ -5,7 +5,7 @@ use lib.Ieee.{binary32, of_bits, to_bits}
 use Rattle.game.specs.declared.Side.TheVariants.{Home, Away}
 use Rattle.items.specs.declared.Item.TheVariants.{Excess, PlacedX, PlacedY, PlacedThird}
 use Rattle.items.specs.declared.Who.TheVariants.{TheBall, OnePlayer}
-use Rattle.replies.specs.Decimal.{decimal_from}
+use Rattle.text.specs.Decimal.{decimal_from}
 use Rattle.item_lines.specs.Values.{significand_of, shift_of, millionths, sign_text, six_digits, decimal_text, amount_text, value_text}
 use Rattle.item_lines.specs.ItemLines.{player_text, excess_text, placed_text, item_line}
 

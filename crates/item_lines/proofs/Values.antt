@@ -7,7 +7,7 @@ use native.Mathlib.Numerals.{add-one}
 use native.Mathlib.Omega.{arith}
 use borrow.Author.Tests.{lt-ltb, le-ltb, eq-eqb, ne_eqb}
 use lib.Dec.{lit<}
-use Rattle.replies.specs.Decimal.{decimal_of}
+use Rattle.text.specs.Decimal.{decimal_of}
 use Rattle.item_lines.specs.Values.{exponent_of, significand_of, shift_of, millionths, sign_text, six_digits, decimal_text, of_word, comma, amount_text}
 
 -- ---- the significand and the power of 2

@@ -12,7 +12,7 @@ use Rattle.items.specs.declared.Item.{Item}
 use Rattle.items.specs.declared.Item.TheVariants.{Verdict, Excess, Kicks, Leaves, HasMoved, Judged, PlacedX, PlacedY, PlacedThird}
 use Rattle.items.specs.declared.Who.{Who}
 use Rattle.items.specs.declared.Who.TheVariants.{TheBall, OnePlayer}
-use Rattle.replies.specs.Decimal.{decimal_of}
+use Rattle.text.specs.Decimal.{decimal_of}
 use Rattle.item_lines.specs.Values.{value_text}
 
 -- ---- who

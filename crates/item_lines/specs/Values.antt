@@ -2,7 +2,7 @@
 -- p is the pattern of a binary32. Its value is the significand over a power of 2, where it is below 2 ^ 24 either way; of any other there is the pattern alone.
 use Rattle.std.specs.Prelude.{cond, List, [], ◌∷◌, ◌++◌, ℕ, ◌+◌, ◌-◌, ◌*◌, ◌/◌, ◌%◌, ◌^◌, eqb, ltb}
 use Rattle.lists.specs.Table.{table}
-use Rattle.replies.specs.Decimal.{decimal_of}
+use Rattle.text.specs.Decimal.{decimal_of}
 
 -- the exponent's field
 abbrev pub exponent_of : ℕ → ℕ

@@ -54,23 +54,20 @@ fn is_placed(value: u32) -> bool
     (value / 0x80_0000 % 256 != 255) & (value != 2147483648)
 }
 
-// Whether the numbers of a line are those of an item.
+// Whether the numbers of a line are those of an item. No TryFrom of it or its parts: of the callers in `reading` one asks only this, and the other has a line of a
+// sheet, of which an error cannot come.
 #[tactic(auto, unfolding(crate::specs::Items::is_item))]
 pub fn is_item(row: Row) -> bool
     ensures { result ≡ Spec.is_item row }
 {
-    let player = is_player(row);
-    let verdict = (1 <= row.value) & (row.value <= 3);
-    let named = (3 <= row.kind) & (row.kind <= 5);
-    let judged = is_judged(row);
-    let placing = (7 <= row.kind) & (row.kind <= 9);
-    let ball = is_the_ball(row);
-    let placed = is_placed(row.value);
-    ((row.kind == 1) & (player & verdict))
-        | (((row.kind == 2) & player)
-            | ((named & (player & (row.value == 0)))
-                | (((row.kind == 6) & (judged & (row.value == 0)))
-                    | (placing & ((player | ball) & placed)))))
+    match row.kind {
+        1 => is_player(row) & ((1 <= row.value) & (row.value <= 3)),
+        2 => is_player(row),
+        3..=5 => is_player(row) & (row.value == 0),
+        6 => is_judged(row) & (row.value == 0),
+        7..=9 => (is_player(row) | is_the_ball(row)) & is_placed(row.value),
+        _ => false,
+    }
 }
 
 fn side_of(side: u32) -> Side
@@ -82,40 +79,33 @@ fn side_of(side: u32) -> Side
 fn verdict_of(value: u32) -> Positioning
     ensures { result ≡ Spec.verdict_of value }
 {
-    if value == 1 {
-        return Positioning::Illegal;
+    match value {
+        1 => Positioning::Illegal,
+        2 => Positioning::IllegalUnlessKicker,
+        _ => Positioning::InAvoidanceRegion,
     }
-    if value == 2 {
-        return Positioning::IllegalUnlessKicker;
-    }
-    Positioning::InAvoidanceRegion
 }
 
 fn judgment_of(side: Side, code: u32) -> BallJudgment
     ensures { result ≡ Spec.judgment_of side code }
 {
-    if code == 1 {
-        return BallJudgment::Goal(side);
+    match code {
+        1 => BallJudgment::Goal(side),
+        2 => BallJudgment::GoalKick(side),
+        3 => BallJudgment::CornerKick(side),
+        4 => BallJudgment::ThrowIn(side),
+        _ => BallJudgment::EndOfPenaltyShot,
     }
-    if code == 2 {
-        return BallJudgment::GoalKick(side);
-    }
-    if code == 3 {
-        return BallJudgment::CornerKick(side);
-    }
-    if code == 4 {
-        return BallJudgment::ThrowIn(side);
-    }
-    BallJudgment::EndOfPenaltyShot
 }
 
 fn who_of(side: u32, number: u32) -> Who
     ensures { result ≡ Spec.who_of side number }
 {
     if side == 2 {
-        return Who::TheBall;
+        Who::TheBall
+    } else {
+        Who::OnePlayer(side_of(side), number)
     }
-    Who::OnePlayer(side_of(side), number)
 }
 
 // The item that a line is.
@@ -125,31 +115,17 @@ pub fn item_of(row: Row) -> Item
 {
     let side = side_of(row.side);
     let number = row.number;
-    if row.kind == 1 {
-        return Item::Verdict(side, number, verdict_of(row.value));
-    }
-    if row.kind == 2 {
-        return Item::Excess(side, number, row.value);
-    }
-    if row.kind == 3 {
-        return Item::Kicks(side, number);
-    }
-    if row.kind == 4 {
-        return Item::Leaves(side, number);
-    }
-    if row.kind == 5 {
-        return Item::HasMoved(side, number);
-    }
-    if row.kind == 6 {
-        return Item::Judged(judgment_of(side, number));
-    }
     let who = who_of(row.side, number);
     let value = floats::from_bits(row.value);
-    if row.kind == 7 {
-        return Item::PlacedX(who, value);
+    match row.kind {
+        1 => Item::Verdict(side, number, verdict_of(row.value)),
+        2 => Item::Excess(side, number, row.value),
+        3 => Item::Kicks(side, number),
+        4 => Item::Leaves(side, number),
+        5 => Item::HasMoved(side, number),
+        6 => Item::Judged(judgment_of(side, number)),
+        7 => Item::PlacedX(who, value),
+        8 => Item::PlacedY(who, value),
+        _ => Item::PlacedThird(who, value),
     }
-    if row.kind == 8 {
-        return Item::PlacedY(who, value);
-    }
-    Item::PlacedThird(who, value)
 }

@@ -45,6 +45,7 @@ fn answer(out: &impl Print, err: &impl Print, text: &[u8]) -> io::Result<()> {
     }
 }
 
+// The command is a word of the call, so that a `match` says which function it runs; a function that hands out another one is refused by the gate.
 fn reply_to(command: Command, text: &[u8], out: &mut [u8]) -> Reply {
     match command {
         Command::Display => desk::display(text, out),

@@ -23,7 +23,7 @@ use Rattle.lists.specs.Ranking.{rank}
 use Rattle.geometry.specs.Geometry.{side_to_sign, mark_x}
 use Rattle.kicker.specs.Kicker.{kick_off_distance, penalty_kick_distance, kicker_distance, seen_distance, player_distance, qualifies, distance_at, comes_before, nearest, kicker_number, determine_kicking_player}
 use Rattle.kicker.specs.KickerKeys.{order_of}
-use Rattle.geometry.specs.Turned.{signed, changed_pose, changed_seen, changed_team, changed_game}
+use Rattle.geometry.specs.Turned.{signed, changed_pose, changed_maybe_pose, changed_team, changed_game}
 use Rattle.geometry.proofs.Turned.{team_changed, hypot_changed, sign_changed, player_at_changed}
 use Rattle.lists.proofs.Counting.{count_more}
 use Rattle.lists.proofs.Ranking as R
@@ -52,7 +52,7 @@ distance_changed a b ThrowIn field sign p m = refl
 distance_changed a b GoalKick field sign p m = refl
 distance_changed a b CornerKick field sign p m = refl
 
-seen_changed : (a b : Bool) (s : SetPlay) (field : FieldDimensions) (sign : Float) (p : Option PlayerPose) (m : Option Margins) → seen_distance s field (signed a sign) (changed_seen a b p) m ≡ seen_distance s field sign p m
+seen_changed : (a b : Bool) (s : SetPlay) (field : FieldDimensions) (sign : Float) (p : Option PlayerPose) (m : Option Margins) → seen_distance s field (signed a sign) (changed_maybe_pose a b p) m ≡ seen_distance s field sign p m
 seen_changed a b s field sign None m = refl
 seen_changed a b s field sign (Some p) None = refl
 seen_changed a b s field sign (Some p) (Some m) = distance_changed a b s field sign p m

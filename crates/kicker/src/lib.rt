@@ -30,7 +30,6 @@ fn kicker_distance(
                 if (distance < circle) & (distance >= mark) {
                     return Some(distance);
                 }
-                return None;
             }
             None
         }
@@ -38,10 +37,7 @@ fn kicker_distance(
             let mark_x = field.length * 0.5 - field.penalty_mark_distance;
             let distance = hypot::hypot(team_x - mark_x, pose.y);
             let inside = margins.opponent_penalty_area > 0.0;
-            if (inside | (distance < circle)) & (distance >= mark) {
-                return Some(distance);
-            }
-            None
+            ((inside | (distance < circle)) & (distance >= mark)).then_some(distance)
         }
         _ => None,
     }
@@ -60,23 +56,17 @@ fn kicker_key(
     ensures value { result ≡ Kicking.distance_key (Spec.player_distance set_play field sign player margins) i }
     ensures small { Kicking.Small (Spec.player_distance set_play field sign player margins) }
 {
-    let penalty = player.penalty;
-    let pose = player.pose;
-    if game::is_unpenalized(penalty) {
-        let Some(p) = pose else {
-            return NO_KEY;
-        };
-        let Some(m) = margins else {
-            return NO_KEY;
-        };
-        let distance = kicker_distance(set_play, field, sign, p, m);
-        let Some(d) = distance else {
-            return NO_KEY;
-        };
-        let order = floats::total_key(floats::bits(d)) as u64;
-        return order * 32 + (i + 1) as u64;
+    if !game::is_unpenalized(player.penalty) {
+        return NO_KEY;
     }
-    NO_KEY
+    let (Some(p), Some(m)) = (player.pose, margins) else {
+        return NO_KEY;
+    };
+    let Some(d) = kicker_distance(set_play, field, sign, p, m) else {
+        return NO_KEY;
+    };
+    let order = floats::total_key(floats::bits(d)) as u64;
+    order * 32 + (i + 1) as u64
 }
 
 // The player of the kicking team that is allowed to take a kick-off or a penalty kick: the one closest to the mark, but not on it, in the

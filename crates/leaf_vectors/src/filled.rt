@@ -1,6 +1,7 @@
 // What the functions of `candidates` give at a vector. Its operands are the patterns of start, min, max and step, how many places are lent, and a place.
 use super::at;
 use floats::{bits, from_bits};
+use tries::Span;
 
 // What each place holds before a call.
 const FILL: f32 = 7.0;
@@ -8,40 +9,27 @@ const FILL: f32 = 7.0;
 // How many places there are; a vector lends at most these.
 const MOST: usize = 16;
 
-// What candidates are asked for.
-#[derive(Clone, Copy)]
-struct Query {
-    start: f32,
-    min: f32,
-    max: f32,
-    step: f32,
-}
-
 // The pattern of the float at a place of a list; after its end a place is as it was lent.
 fn bits_at(list: &[f32], i: usize) -> u32 {
-    if i < list.len() {
-        bits(list[i])
-    } else {
-        bits(FILL)
-    }
+    bits(list.get(i).copied().unwrap_or(FILL))
 }
 
 // How many candidates are filled into the front of the list, of which so many places are lent.
-fn fill(q: Query, list: &mut [f32], lent: usize) -> usize {
+fn fill(span: Span, list: &mut [f32], lent: usize) -> usize {
     if lent <= list.len() {
-        return candidates::fill_candidates(q.start, q.min, q.max, q.step, &mut list[..lent]);
+        return candidates::fill_candidates(span, &mut list[..lent]);
     }
     0
 }
 
 // How many places the part has that is answered for the whole list.
-fn answered(q: Query, list: &mut [f32]) -> usize {
-    let part = candidates::penalty_placement_candidates(q.start, q.min, q.max, q.step, list);
+fn answered(span: Span, list: &mut [f32]) -> usize {
+    let part = candidates::penalty_placement_candidates(span, list);
     part.len()
 }
 
 pub(crate) fn value(function: u32, vector: &[u32]) -> u32 {
-    let q = Query {
+    let span = Span {
         start: from_bits(at(vector, 1)),
         min: from_bits(at(vector, 2)),
         max: from_bits(at(vector, 3)),
@@ -51,24 +39,22 @@ pub(crate) fn value(function: u32, vector: &[u32]) -> u32 {
     let i = at(vector, 6) as usize;
     let mut list = [FILL; MOST];
     match function {
-        13 => (fill(q, &mut list, lent) % 65536) as u32,
-        14 => candidates::candidates_refusal(q.start, q.min, q.max, q.step, lent) as u32,
+        13 => (fill(span, &mut list, lent) % 65536) as u32,
+        14 => refusal::number_in(candidates::candidates_refusal(span, lent)) as u32,
         // A place of the list after 13.
         15 => {
-            fill(q, &mut list, lent);
+            fill(span, &mut list, lent);
             bits_at(&list, i)
         }
-        16 => (answered(q, &mut list) % 65536) as u32,
+        16 => (answered(span, &mut list) % 65536) as u32,
         // A place of the part that 16 counts.
         17 => {
-            let part = candidates::penalty_placement_candidates(
-                q.start, q.min, q.max, q.step, &mut list,
-            );
+            let part = candidates::penalty_placement_candidates(span, &mut list);
             bits_at(part, i)
         }
         // A place of the whole list after 16, in the part or behind it.
         _ => {
-            answered(q, &mut list);
+            answered(span, &mut list);
             bits_at(&list, i)
         }
     }

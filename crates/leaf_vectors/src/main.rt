@@ -25,18 +25,13 @@ const NOTHING: u32 = 0xffff_ffff;
 
 // The number at a place of a vector, and 0 past its end.
 fn at(vector: &[u32], k: usize) -> u32 {
-    if k < vector.len() { vector[k] } else { 0 }
+    vector.get(k).copied().unwrap_or(0)
 }
 
 // The number that is written in decimal at a place, and past the last a NaN.
 fn number(k: u32) -> f32 {
     let numbers: &[f32] = &decimals::NUMBERS;
-    let i = k as usize;
-    if i < numbers.len() {
-        numbers[i]
-    } else {
-        0.0 / 0.0
-    }
+    numbers.get(k as usize).copied().unwrap_or(0.0 / 0.0)
 }
 
 // What a vector's function gives at its operands.

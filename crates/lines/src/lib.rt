@@ -36,11 +36,9 @@ fn columns(part: &mut [u8], v: u32)
     ensures { part.new ≡ fronted (Spec.columns_of v) part.old }
 {
     let mut rest = v;
-    let mut c: usize = 11;
-    while 0 < c {
-        c -= 1;
+    for c in (0..11).rev() {
         part[c] = column(rest, c);
-        rest = rest / 10;
+        rest /= 10;
     }
 }
 

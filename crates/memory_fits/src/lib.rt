@@ -1,19 +1,14 @@
 // Which memories between frames are accepted: refusals 2 to 4 of what is remembered and of a touch.
 #![tactic(auto)]
 
-ghost use Rattle.std.specs.Prelude.{◌≡◌, true};
-ghost use Rattle.lists.specs.Refusals.{first_refusal};
-ghost use Rattle.refusals.specs.Refusals as Refusals;
+ghost use Rattle.std.specs.Prelude.{◌≡◌};
+ghost use Rattle.refusal.specs.Refusal.{unless_refused};
 ghost use Rattle.memory_fits.specs.MemoryFits as Spec;
 
 use game::{Ball, Restart};
+use refusal::Refusal;
+use refusals::{first_failing, is_coordinate, number_fits};
 use remembered::Remembered;
-
-fn is_coordinate(x: f32) -> bool
-    ensures { result ≡ Refusals.is_coordinate x }
-{
-    (-64.0 <= x) & (x <= 64.0)
-}
 
 // At most 256 either way; what is not there is not asked.
 fn allowance_fits(allowance: Option<f32>) -> bool
@@ -34,12 +29,6 @@ fn allowances_fit(remembered: [Remembered; 20]) -> bool
     ok
 }
 
-fn number_fits(number: Option<u8>) -> bool
-    ensures { result ≡ Refusals.number_fits number }
-{
-    number.is_none_or(|n| (game::MIN <= n) & (n <= game::MAX))
-}
-
 // The kick place of a restart that is in effect, with or without a kicker.
 fn kick_fits(restart: Option<Restart>) -> bool
     ensures { result ≡ Spec.kick_fits restart }
@@ -47,23 +36,7 @@ fn kick_fits(restart: Option<Restart>) -> bool
     restart.is_none_or(|r| is_coordinate(r.kick_x) & is_coordinate(r.kick_y))
 }
 
-// The number of the first of the three that does not hold, or 0.
-fn first_failing(allowances: bool, places: bool, numbers: bool) -> u8
-    ensures { result ≡ first_refusal (Refusals.five true allowances places numbers true) }
-{
-    if !allowances {
-        return 2;
-    }
-    if !places {
-        return 3;
-    }
-    if !numbers {
-        return 4;
-    }
-    0
-}
-
-// The number of the first refusal of a memory and a touch, or 0 for none: 2 an allowance, 3 the ball or the kick place, 4 a player number, that of who touches the ball too.
+// The first refusal of a memory and a touch, where there is one: Pose for an allowance, Ball for the ball or the kick place, Number for a player number, that of who touches the ball too.
 #[tactic(auto, unfolding(crate::specs::MemoryFits::memory_refusal))]
 pub fn memory_refusal(
     home: [Remembered; 20],
@@ -72,8 +45,8 @@ pub fn memory_refusal(
     restart: Option<Restart>,
     kicking_player: Option<u8>,
     toucher: Option<u8>,
-) -> u8
-    ensures { result ≡ Spec.memory_refusal home away ball restart kicking_player toucher }
+) -> Result<(), Refusal>
+    ensures { result ≡ unless_refused (Spec.memory_refusal home away ball restart kicking_player toucher) tt }
 {
     let allowances = allowances_fit(home) & allowances_fit(away);
     let places = is_coordinate(ball.x)
@@ -82,5 +55,5 @@ pub fn memory_refusal(
         & kick_fits(restart);
     let kicker = restart.and_then(|r| r.kicker);
     let numbers = number_fits(kicking_player) & number_fits(kicker) & number_fits(toucher);
-    first_failing(allowances, places, numbers)
+    first_failing(true, allowances, places, numbers, true)
 }

@@ -16,24 +16,16 @@ const MOTION_ANGLE: f32 = 0.3;
 pub fn has_moved(player: Player) -> bool
     ensures { result ≡ Spec.has_moved player }
 {
-    let penalty = player.penalty;
-    let pose = player.pose;
-    let reference = player.reference;
-    let unpenalized = game::is_unpenalized(penalty);
-    match pose {
-        None => false,
-        Some(p) => match reference {
-            None => false,
-            Some(q) => {
-                let distance = hypot::hypot(p.x - q.x, p.y - q.y);
-                if distance > MOTION_DISTANCE {
-                    return unpenalized;
-                }
-                let angle = floats::abs(geometry::normalize_angle(p.theta - q.theta));
-                unpenalized & (angle > MOTION_ANGLE)
-            }
-        },
+    let unpenalized = game::is_unpenalized(player.penalty);
+    let (Some(p), Some(q)) = (player.pose, player.reference) else {
+        return false;
+    };
+    let distance = hypot::hypot(p.x - q.x, p.y - q.y);
+    if distance > MOTION_DISTANCE {
+        return unpenalized;
     }
+    let angle = floats::abs(geometry::normalize_angle(p.theta - q.theta));
+    unpenalized & (angle > MOTION_ANGLE)
 }
 
 // Which of a team's players have moved.

@@ -41,14 +41,10 @@ fn is_seen_outside(pose: Option<PlayerPose>, field: FieldDimensions) -> bool
 fn is_outside_in_set(game: Game, field: FieldDimensions, player: Player, returning: bool) -> bool
     ensures { result ≡ Spec.is_outside_in_set game field player returning }
 {
-    let phase = game.phase;
-    let state = game.state;
-    let penalty = player.penalty;
-    let pose = player.pose;
-    let shootout = game::is_shootout(phase);
-    let set = game::is_set(state);
-    let unpenalized = game::is_unpenalized(penalty);
-    let outside = is_seen_outside(pose, field);
+    let shootout = game::is_shootout(game.phase);
+    let set = game::is_set(game.state);
+    let unpenalized = game::is_unpenalized(player.penalty);
+    let outside = is_seen_outside(player.pose, field);
     !shootout & set & unpenalized & !returning & outside
 }
 
@@ -79,36 +75,26 @@ fn judged_position(
     ensures { result ≡ Spec.judged_position state verdict left_avoidance grace_over number kicking_player }
 {
     match verdict {
-        Positioning::Legal => {
-            let call = None;
-            Asked {
-                call,
-                kicking_player,
-            }
-        }
-        Positioning::Illegal => {
-            let call = Some(PlayerCall::IllegalPosition);
-            Asked {
-                call,
-                kicking_player,
-            }
-        }
+        Positioning::Legal => Asked {
+            call: None,
+            kicking_player,
+        },
+        Positioning::Illegal => Asked {
+            call: position_call(true),
+            kicking_player,
+        },
         Positioning::IllegalUnlessKicker => {
             let kicker = first_kicker(state, number, kicking_player);
             let may_kick = game::is_number(kicker, number);
-            let call = position_call(!may_kick);
             Asked {
-                call,
+                call: position_call(!may_kick),
                 kicking_player: kicker,
             }
         }
-        Positioning::InAvoidanceRegion => {
-            let call = position_call(left_avoidance | grace_over);
-            Asked {
-                call,
-                kicking_player,
-            }
-        }
+        Positioning::InAvoidanceRegion => Asked {
+            call: position_call(left_avoidance | grace_over),
+            kicking_player,
+        },
     }
 }
 
@@ -127,24 +113,21 @@ fn asked_player(
 ) -> Asked
     ensures { result ≡ Spec.asked_player game field player r verdict in_excess grace_over number kicking_player }
 {
-    let state = game.state;
     let outside = is_outside_in_set(game, field, player, r.returning);
     if geometry::is_leaving_the_field(player, field, player.allowance) {
-        let call = Some(PlayerCall::LeavingTheField);
         return Asked {
-            call,
+            call: Some(PlayerCall::LeavingTheField),
             kicking_player,
         };
     }
     if in_excess | outside {
-        let call = Some(PlayerCall::IllegalPosition);
         return Asked {
-            call,
+            call: Some(PlayerCall::IllegalPosition),
             kicking_player,
         };
     }
     judged_position(
-        state,
+        game.state,
         verdict,
         r.left_avoidance,
         grace_over,
@@ -225,16 +208,11 @@ pub fn penalize_players(
 fn inside_player(player: Player, margins: Option<Margins>, r: Remembered) -> Remembered
     ensures { result ≡ Spec.inside_player player margins r }
 {
-    let penalty = player.penalty;
-    let allowance = r.return_allowance;
-    let unpenalized = game::is_unpenalized(penalty);
+    let unpenalized = game::is_unpenalized(player.penalty);
     let inside = margins.is_some_and(|m| m.own_goal_area >= 0.0);
     Remembered {
-        returning: r.returning,
-        return_allowance: allowance,
-        left_avoidance: r.left_avoidance,
         in_goal_area: unpenalized & inside,
-        present: r.present,
+        ..r
     }
 }
 

@@ -21,7 +21,7 @@ use Rattle.game.specs.declared.Side.TheVariants.{Home, Away}
 use Rattle.game.specs.declared.SideMapping.{SideMapping}
 use Rattle.game.specs.declared.Team.{Team}
 use Rattle.geometry.specs.Geometry.{side_to_sign}
-use Rattle.geometry.specs.Turned.{signed, changed_pose, changed_seen, changed_team, changed_ends}
+use Rattle.geometry.specs.Turned.{signed, changed_pose, changed_maybe_pose, changed_team, changed_ends}
 use Rattle.geometry.proofs.Turned.{sign_changed, numbered_changed}
 use Rattle.places.specs.Turned.{GivenHeading, ChangedPlace, none, player}
 use Rattle.places.proofs.Signs.{place_changed, copysign_changed}
@@ -89,7 +89,7 @@ module _ (a b : Bool) (H : Float → Float → Type 0) (f : FieldDimensions) (d 
       taken = team_place_changed clear' clear (clear_changed a b sign (edge_of f p) spots) f p.radius d
 
   -- of one that may be absent
-  seen_place_changed : (sign : Float) (pose : Option PlayerPose) (spots : List Spot) → Asked b H f pose → ChangedPlace a b H (seen_place f d sign pose spots side number) (seen_place f d (signed a sign) (changed_seen a b pose) (map (changed_spot a b) spots) side number)
+  seen_place_changed : (sign : Float) (pose : Option PlayerPose) (spots : List Spot) → Asked b H f pose → ChangedPlace a b H (seen_place f d sign pose spots side number) (seen_place f d (signed a sign) (changed_maybe_pose a b pose) (map (changed_spot a b) spots) side number)
   seen_place_changed sign None spots t = none
   seen_place_changed sign (Some p) spots t = pose_place_changed sign p spots t.0 t.1
 

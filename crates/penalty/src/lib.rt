@@ -8,10 +8,11 @@ ghost use Rattle.penalty.specs.Penalty as Spec;
 ghost use Rattle.penalty.specs.Walk as Walk;
 
 use floats::PI;
-use game::{FieldDimensions, Game, Placement, Side, Team};
+use game::{Earlier, FieldDimensions, Game, Placement, Side, Team};
 use std::cmp::Ordering;
+use tries::Span;
 
-// The candidate that is taken so far, its clearance, and whether that reaches the distance.
+// The candidate that is taken so far, its clearance, and whether that reaches the distance: a flag and no Option, since there is a candidate either way.
 #[derive(Clone, Copy)]
 struct Choice {
     reached: bool,
@@ -57,53 +58,51 @@ struct Search {
 }
 
 // The choice after the try j, which may have no candidate.
-fn after_try<'a>(
+fn after_try(
     choice: Choice,
     search: Search,
     home: Team,
     away: Team,
     side: Side,
     number: u8,
-    xs: &'a [f32],
-    ys: &'a [f32],
+    earlier: Earlier<'_>,
     j: u16,
 ) -> Choice
-    ensures { result ≡ Walk.after_try search (occupied home away side number xs.now ys.now) j choice }
+    ensures { result ≡ Walk.after_try search (occupied home away side number earlier.entry.xs.now earlier.entry.ys.now) j choice }
 {
     let x = tries::candidate_at(search.first, search.distance, j);
     if tries::is_candidate(search.min, search.max, j, x) {
-        let c = clearance::clearance(home, away, side, number, xs, ys, search.sign * x, search.y);
+        let c = clearance::clearance(home, away, side, number, earlier, search.sign * x, search.y);
         return considered(choice, search.distance, x, c);
     }
     choice
 }
 
 // The choice after so many tries, or after the first that reaches the distance.
-fn walk<'a>(
+fn walk(
     start: Choice,
     search: Search,
     home: Team,
     away: Team,
     side: Side,
     number: u8,
-    xs: &'a [f32],
-    ys: &'a [f32],
+    earlier: Earlier<'_>,
     tries: u16,
 ) -> Choice
-    ensures { result ≡ fold_to tries (Walk.after_try search (occupied home away side number xs.now ys.now)) start }
+    ensures { result ≡ fold_to tries (Walk.after_try search (occupied home away side number earlier.entry.xs.now earlier.entry.ys.now)) start }
 {
     let mut choice = start;
     for j in 0..tries {
         if choice.reached {
             return choice;
         }
-        choice = after_try(choice, search, home, away, side, number, xs, ys, j);
+        choice = after_try(choice, search, home, away, side, number, earlier, j);
     }
     choice
 }
 
 // The team's x that is taken: the first candidate that reaches the distance, otherwise the last of those with the most space.
-fn team_place<'a>(
+fn team_place(
     field: FieldDimensions,
     radius: f32,
     distance: f32,
@@ -113,17 +112,22 @@ fn team_place<'a>(
     away: Team,
     side: Side,
     number: u8,
-    xs: &'a [f32],
-    ys: &'a [f32],
+    earlier: Earlier<'_>,
 ) -> f32
-    ensures { result ≡ Spec.team_place field radius distance (Spec.clear_from sign y (occupied home away side number xs.now ys.now)) }
+    ensures { result ≡ Spec.team_place field radius distance (Spec.clear_from sign y (occupied home away side number earlier.entry.xs.now earlier.entry.ys.now)) }
 {
     let start = -(field.length * 0.5 - field.penalty_mark_distance);
     let min = -field.length * 0.5 + radius;
     let max = -radius;
-    let first = tries::candidate_first(start, min, max);
-    let tries = tries::candidate_tries(start, min, max, distance);
-    let c = clearance::clearance(home, away, side, number, xs, ys, sign * first, y);
+    let span = Span {
+        start,
+        min,
+        max,
+        step: distance,
+    };
+    let first = span.candidate_first();
+    let tries = span.candidate_tries();
+    let c = clearance::clearance(home, away, side, number, earlier, sign * first, y);
     let reached = c >= distance;
     let search = Search {
         first,
@@ -138,24 +142,25 @@ fn team_place<'a>(
         x: first,
         clearance: c,
     };
-    let taken = walk(choice, search, home, away, side, number, xs, ys, tries);
+    let taken = walk(choice, search, home, away, side, number, earlier, tries);
     taken.x
 }
 
 // The place of a penalized player at the edge of the carpet; none where the lists of earlier places differ in length, which is refused before.
-pub fn place_for_penalty<'a>(
+pub fn place_for_penalty(
     game: Game,
     field: FieldDimensions,
     distance: f32,
     home: Team,
     away: Team,
-    xs: &'a [f32],
-    ys: &'a [f32],
+    earlier: Earlier<'_>,
     side: Side,
     number: u8,
 ) -> Placement
-    ensures { result ≡ Spec.place_for_penalty game.sides field distance home away xs.now ys.now side number }
+    ensures { result ≡ Spec.place_for_penalty game.sides field distance home away earlier.entry.xs.now earlier.entry.ys.now side number }
 {
+    let xs = earlier.xs;
+    let ys = earlier.ys;
     if xs.len() != ys.len() {
         return Placement::NoPlace;
     }
@@ -171,7 +176,7 @@ pub fn place_for_penalty<'a>(
             let sign = geometry::side_to_sign(side, sides);
             let y = floats::copysign(field.width * 0.5 + field.border_strip_width - p.radius, p.y);
             let team_x = team_place(
-                field, p.radius, distance, sign, y, home, away, side, number, xs, ys,
+                field, p.radius, distance, sign, y, home, away, side, number, earlier,
             );
             let theta = if y > 0.0 { -PI * 0.5 } else { PI * 0.5 };
             Placement::PlayerAt {

@@ -26,7 +26,7 @@ use Rattle.game.specs.declared.SideMapping.{SideMapping}
 use Rattle.game.specs.declared.SideMapping.TheVariants.{HomeDefendsLeftGoal, HomeDefendsRightGoal}
 use Rattle.game.specs.declared.Team.{Team}
 use Rattle.geometry.specs.Geometry.{side_to_sign, team_x, is_on_own_goal_line, mark_x}
-use Rattle.geometry.specs.Turned.{signed, changed_pose, changed_seen, changed_player, changed_team, changed_ball, changed_ends, changed_game}
+use Rattle.geometry.specs.Turned.{signed, changed_pose, changed_maybe_pose, changed_player, changed_team, changed_ball, changed_ends, changed_game}
 use Rattle.geometry.proofs.Turned.{abs_changed, team_changed, sign_changed, goal_line_changed, numbered_changed}
 use Rattle.places.specs.Places.{goal_line_x, touchline_y, area_line_x, area_line_y, in_opponent_area, area_free_kick_place, free_kick_place, restart_place, ball_at_restart, mark_place, center_place, mark_or, set_play_place, ball_in_set, heading, shot_x, seen_shot_place, penalty_shot_place, post_y, keeper_place, checked_keeper_place, seen_keeper_place, maybe_keeper_place, penalty_goalkeeper_place}
 use Rattle.places.specs.Turned.{GivenHeading, from_zero, from_pi, ChangedPlace, none, ball, player}
@@ -107,7 +107,7 @@ module _ (a b : Bool) (H : Float → Float → Type 0) where
 
     -- ---- a player in a penalty shot, where H tells what becomes of the heading
     module _ (turns : (side : Side) (sides : SideMapping) → H (heading (side_to_sign side sides)) (heading (side_to_sign side (changed_ends a sides)))) where
-      seen_shot_changed : (kicking : Option Side) (pose : Option PlayerPose) (sides : SideMapping) (side : Side) (number : ℕ) → ChangedPlace a b H (seen_shot_place kicking pose sides f side number) (seen_shot_place kicking (changed_seen a b pose) (changed_ends a sides) f side number)
+      seen_shot_changed : (kicking : Option Side) (pose : Option PlayerPose) (sides : SideMapping) (side : Side) (number : ℕ) → ChangedPlace a b H (seen_shot_place kicking pose sides f side number) (seen_shot_place kicking (changed_maybe_pose a b pose) (changed_ends a sides) f side number)
       seen_shot_changed None pose sides side number = none
       seen_shot_changed (Some kicking) None sides side number = none
       seen_shot_changed (Some kicking) (Some p) sides side number =
@@ -133,7 +133,7 @@ module _ (a b : Bool) (H : Float → Float → Type 0) (kept : (theta : Float) �
   checked_changed : (number : ℕ) (s : Float) (unpenalized : Bool) (p : PlayerPose) → T (fits binary32 p.y) → ChangedPlace a b H (checked_keeper_place f side number s unpenalized p) (checked_keeper_place f side number (signed a s) unpenalized (changed_pose a b p))
   checked_changed number s unpenalized p n = rw (on_line_changed s p) (chosen a b H (unpenalized && not (is_on_own_goal_line (team_x s p) p f)) (keeper_changed number s p n) none)
 
-  seen_keeper_changed : (pose : Option PlayerPose) (sides : SideMapping) (number : ℕ) (status : Penalty) → FitsY pose → ChangedPlace a b H (seen_keeper_place pose sides f side number status) (seen_keeper_place (changed_seen a b pose) (changed_ends a sides) f side number status)
+  seen_keeper_changed : (pose : Option PlayerPose) (sides : SideMapping) (number : ℕ) (status : Penalty) → FitsY pose → ChangedPlace a b H (seen_keeper_place pose sides f side number status) (seen_keeper_place (changed_maybe_pose a b pose) (changed_ends a sides) f side number status)
   seen_keeper_changed None sides number status n = none
   seen_keeper_changed (Some p) sides number status n = rw (sign_changed a side sides) (checked_changed number (side_to_sign side sides) (is_unpenalized status) p n)
 

@@ -18,19 +18,18 @@ fn free_kick_place(
 ) -> Placement
     ensures { result ≡ Spec.free_kick_place field ball kicking_side sides }
 {
-    match kicking_side {
-        None => Placement::BallAt(ball.x, ball.y, field.ball_radius),
-        Some(side) => {
-            let sign = geometry::side_to_sign(side, sides);
-            let y = floats::abs(ball.y);
-            let line_x = field.length * 0.5 - field.penalty_area_length + field.line_width * 0.5;
-            let half_width = field.penalty_area_width * 0.5 - field.line_width * 0.5;
-            if (sign * ball.x > line_x) & (y <= half_width) {
-                return Placement::BallAt(sign * line_x, ball.y, field.ball_radius);
-            }
-            Placement::BallAt(ball.x, ball.y, field.ball_radius)
-        }
+    let own_place = Placement::BallAt(ball.x, ball.y, field.ball_radius);
+    let Some(side) = kicking_side else {
+        return own_place;
+    };
+    let sign = geometry::side_to_sign(side, sides);
+    let y = floats::abs(ball.y);
+    let line_x = field.length * 0.5 - field.penalty_area_length + field.line_width * 0.5;
+    let half_width = field.penalty_area_width * 0.5 - field.line_width * 0.5;
+    if (sign * ball.x > line_x) & (y <= half_width) {
+        return Placement::BallAt(sign * line_x, ball.y, field.ball_radius);
     }
+    own_place
 }
 
 // The ball's place in a set play that starts during Playing: the corner of the goal area or of the field on the ball's side, or the touchline where the ball
@@ -77,14 +76,12 @@ fn mark_or(
 ) -> Placement
     ensures { result ≡ Spec.mark_or field kicking_side sides other }
 {
-    match kicking_side {
-        None => other,
-        Some(side) => {
-            let sign = geometry::side_to_sign(side, sides);
-            let mark_x = field.length * 0.5 - field.penalty_mark_distance;
-            Placement::BallAt(sign * mark_x, 0.0, field.ball_radius)
-        }
-    }
+    let Some(side) = kicking_side else {
+        return other;
+    };
+    let sign = geometry::side_to_sign(side, sides);
+    let mark_x = field.length * 0.5 - field.penalty_mark_distance;
+    Placement::BallAt(sign * mark_x, 0.0, field.ball_radius)
 }
 
 // The ball's place when Set is entered.
@@ -121,17 +118,11 @@ fn shot_place(
 {
     let sign = geometry::side_to_sign(side, sides);
     let theta = if sign > 0.0 { 0.0 } else { PI };
-    if game::same_side(side, kicking_side) {
-        let team_x = field.length * 0.5 - field.penalty_area_length + field.line_width * 0.5;
-        return Placement::PlayerAt {
-            side,
-            number,
-            x: sign * team_x,
-            y: 0.0,
-            theta,
-        };
-    }
-    let team_x = -(field.length * 0.5 - field.line_width * 0.5);
+    let team_x = if game::same_side(side, kicking_side) {
+        field.length * 0.5 - field.penalty_area_length + field.line_width * 0.5
+    } else {
+        -(field.length * 0.5 - field.line_width * 0.5)
+    };
     Placement::PlayerAt {
         side,
         number,
@@ -152,16 +143,10 @@ pub fn place_for_penalty_shot(
 ) -> Placement
     ensures { result ≡ Spec.penalty_shot_place game field side number player }
 {
-    let kicking_side = game.kicking_side;
-    let sides = game.sides;
-    let pose = player.pose;
-    match kicking_side {
-        None => Placement::NoPlace,
-        Some(kicker) => match pose {
-            None => Placement::NoPlace,
-            Some(_) => shot_place(sides, field, side, number, kicker),
-        },
-    }
+    let (Some(kicking_side), Some(_)) = (game.kicking_side, player.pose) else {
+        return Placement::NoPlace;
+    };
+    shot_place(game.sides, field, side, number, kicking_side)
 }
 
 // The place of an unpenalised goalkeeper at this pose: the closest point of its goal line between the posts, its heading kept; none where it is on that line
@@ -202,20 +187,14 @@ pub fn place_penalty_goalkeeper(
 ) -> Placement
     ensures { result ≡ Spec.penalty_goalkeeper_place game field side team }
 {
-    let goalkeeper = team.goalkeeper;
-    let sides = game.sides;
-    match goalkeeper {
-        None => Placement::NoPlace,
-        Some(number) => {
-            let player = game::player_numbered(team, number);
-            let pose = player.pose;
-            let penalty = player.penalty;
-            let sign = geometry::side_to_sign(side, sides);
-            let unpenalized = game::is_unpenalized(penalty);
-            match pose {
-                None => Placement::NoPlace,
-                Some(p) => keeper_place(field, side, number, sign, unpenalized, p),
-            }
-        }
-    }
+    let Some(number) = team.goalkeeper else {
+        return Placement::NoPlace;
+    };
+    let player = game::player_numbered(team, number);
+    let Some(pose) = player.pose else {
+        return Placement::NoPlace;
+    };
+    let sign = geometry::side_to_sign(side, game.sides);
+    let unpenalized = game::is_unpenalized(player.penalty);
+    keeper_place(field, side, number, sign, unpenalized, pose)
 }

@@ -37,7 +37,7 @@ use Rattle.tries.proofs.CandidatesList.{Held}
 use Rattle.places.specs.Places.{goal_line_x, touchline_y, area_line_x, area_line_y, in_opponent_area, free_kick_place, restart_place, ball_at_restart, mark_or, set_play_place, ball_in_set, heading, shot_x, seen_shot_place, penalty_shot_place, post_y, keeper_place, seen_keeper_place, maybe_keeper_place, penalty_goalkeeper_place}
 use Rattle.clearance.specs.Clearance.{occupied}
 use Rattle.penalty.specs.Penalty.{start_of, lowest_of, highest_of, edge_of, inward, seen_place, place_for_penalty}
-use Rattle.refusals.specs.Refusals.{is_size, is_coordinate, is_radius, is_player_number, pose_fits, seen_fits, number_fits, restart_fits, wish_fits, ball_fits, numbers_fit, refusal_of}
+use Rattle.refusals.specs.Refusals.{is_size, is_coordinate, is_radius, is_player_number, pose_fits, maybe_pose_fits, number_fits, restart_fits, wish_fits, ball_fits, numbers_fit, refusal_of}
 use Rattle.refusals.proofs.Accepted.{Accepted, accepted, Ranges, field_ranges, numbered_fits, team_fits_holds, wished_fits}
 use Rattle.decision.specs.Decision.{place_for, wished_place, decision_of}
 use Rattle.bounds_hold.specs.Bounds.{InOrder, PenaltyBounds, PlacedAmongAll, space_at, BoundsHold, FloatsFit}
@@ -119,7 +119,7 @@ module _ (f : FieldDimensions) (fit : SizesFit f) (r : Ranges f) where
   shot_placed (Some k) None sides side number h = nowhere
   shot_placed (Some k) (Some p) sides side number h = player_at_holds h (signed_finite side sides (shot_x f (same_side side k)) (shot_finite (same_side side k))) zero_finite (heading_finite (side_to_sign side sides))
 
-  keeper_placed : (pose : Option PlayerPose) → SeenFits pose → seen_fits pose ≡ true → (sides : SideMapping) (side : Side) (number : ℕ) (penalty : Penalty) → is_player_number number ≡ true → Placed (seen_keeper_place pose sides f side number penalty)
+  keeper_placed : (pose : Option PlayerPose) → SeenFits pose → maybe_pose_fits pose ≡ true → (sides : SideMapping) (side : Side) (number : ℕ) (penalty : Penalty) → is_player_number number ≡ true → Placed (seen_keeper_place pose sides f side number penalty)
   unfolding keeper_place pose_fits
   keeper_placed None q e sides side number penalty h = nowhere
   keeper_placed (Some p) q e sides side number penalty h =
@@ -160,7 +160,7 @@ module _ (s : Situation) (xs ys : List Float) (fit : PlaceFloats s) (e : refusal
   seen : (side : Side) (n : ℕ) → SeenFits (player_numbered (team_of s side) n).pose
   seen side n = numbered_seen (team_of s side) (fit.poses side) n
 
-  in_range : (side : Side) (n : ℕ) → is_player_number n ≡ true → seen_fits (player_numbered (team_of s side) n).pose ≡ true
+  in_range : (side : Side) (n : ℕ) → is_player_number n ≡ true → maybe_pose_fits (player_numbered (team_of s side) n).pose ≡ true
   in_range side n h = numbered_fits (team_of s side) (team_fits_holds s xs ys a side) n h
 
   -- ---- the goalkeeper
@@ -203,7 +203,7 @@ module _ (s : Situation) (xs ys : List Float) (fit : PlaceFloats s) (e : refusal
         let f = s.field in
         let d = s.penalty_placement_distance in
         let q = subst SeenFits h (seen side number) in
-        let radius = right_true (is_coordinate p.x && is_coordinate p.y && is_coordinate p.theta) (is_radius p.radius) (subst (λ (v : Option PlayerPose). seen_fits v ≡ true) h (in_range side number player_number)) in
+        let radius = right_true (is_coordinate p.x && is_coordinate p.y && is_coordinate p.theta) (is_radius p.radius) (subst (λ (v : Option PlayerPose). maybe_pose_fits v ≡ true) h (in_range side number player_number)) in
         let u = radius_under p.radius q.radius radius in
         let order = bounds.candidates side number p w h in
         let among = bounds.place side number p w h in

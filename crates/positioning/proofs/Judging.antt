@@ -1,6 +1,6 @@
 -- Where positions are not judged, or no set play is on, nobody has a condition. Assumes nothing.
 use mathlib.Core.Path.{◌≡◌, refl, sym, ap, ◌∙◌}
-use mathlib.Core.Bool.{Bool, true, false, not, ◌&&◌, ◌||◌, true≢false}
+use mathlib.Core.Bool.{Bool, true, false, ◌&&◌, true≢false}
 use mathlib.Core.List.{List, [], ◌∷◌}
 use denote.Enum.Declared.{tag_of}
 use types.Run.{OneOf, miss}
@@ -8,7 +8,7 @@ use Prim.Native.Nat.{ℕ}
 use lib.ListN.{replicate}
 use Rattle.lists.proofs.Table.{table_same}
 use Rattle.game.specs.contracts.SetPlay.{the_type}
-use Rattle.game.specs.Game.{is_number, is_shootout, is_set, is_playing, is_unpenalized}
+use Rattle.game.specs.Game.{is_number, is_unpenalized}
 use Rattle.game.specs.Players.{player_at, margins_at, number_at}
 use Rattle.game.specs.declared.Ball.{Ball}
 use Rattle.game.specs.declared.FieldDimensions.{FieldDimensions}
@@ -24,7 +24,7 @@ use Rattle.conditions.specs.Conditions.{first_of}
 use Rattle.conditions.specs.declared.Condition.{Condition}
 use Rattle.conditions.specs.declared.Condition.TheVariants.{NoCondition}
 use Rattle.avoidance.specs.Avoidance.{avoidance_condition}
-use Rattle.positioning.specs.Positioning.{set_play_condition, seen_condition, is_judged, condition_of, condition_at, team_conditions, is_set_play, is_judging}
+use Rattle.positioning.specs.Positioning.{set_play_condition, seen_condition, is_set_or_playing, is_judged, condition_of, condition_at, team_conditions, is_set_play, is_judging}
 use Rattle.std.specs.Prelude.{Option, None, Some}
 
 -- one of the others
@@ -67,7 +67,7 @@ not_judged g f b side goalkeeper n q m e = go (is_set_play g.set_play) refl
     rest = seen_condition q.pose m g f side (is_number goalkeeper n) (avoidance_condition g f b side q m)
 
     asked : Bool
-    asked = not (is_shootout g.phase) && (is_set g.state || is_playing g.state)
+    asked = is_set_or_playing g
 
     never : asked ≡ false → first_of (asked && is_unpenalized q.penalty) rest NoCondition ≡ NoCondition
     never x = ap (λ (z : Bool). first_of (z && is_unpenalized q.penalty) rest NoCondition) x

@@ -17,7 +17,7 @@ use Rattle.game.specs.declared.SetPlay.TheVariants.{NoSetPlay, KickOff, DirectFr
 use Rattle.game.specs.declared.Side.{Side}
 use Rattle.game.specs.declared.State.{State}
 use Rattle.geometry.specs.Geometry.{side_to_sign, mark_x}
-use Rattle.geometry.specs.Turned.{changed_pose, changed_seen, changed_player, changed_ball, changed_game}
+use Rattle.geometry.specs.Turned.{changed_pose, changed_maybe_pose, changed_player, changed_ball, changed_game}
 use Rattle.geometry.proofs.Turned.{team_changed, hypot_changed, sign_changed}
 use Rattle.conditions.specs.declared.Condition.{Condition}
 use Rattle.conditions.specs.declared.Condition.TheVariants.{NoCondition}
@@ -55,7 +55,7 @@ set_play_changed a b ThrowIn g f side keeper c p m = refl
 set_play_changed a b GoalKick g f side keeper c p m = refl
 set_play_changed a b CornerKick g f side keeper c p m = refl
 
-seen_changed : (a b : Bool) (p : Option PlayerPose) (m : Option Margins) (g : Game) (f : FieldDimensions) (side : Side) (keeper : Bool) (c : Condition) → seen_condition (changed_seen a b p) m (changed_game a g) f side keeper c ≡ seen_condition p m g f side keeper c
+seen_changed : (a b : Bool) (p : Option PlayerPose) (m : Option Margins) (g : Game) (f : FieldDimensions) (side : Side) (keeper : Bool) (c : Condition) → seen_condition (changed_maybe_pose a b p) m (changed_game a g) f side keeper c ≡ seen_condition p m g f side keeper c
 seen_changed a b None m g f side keeper c = refl
 seen_changed a b (Some p) None g f side keeper c = refl
 seen_changed a b (Some p) (Some m) g f side keeper c = set_play_changed a b g.set_play g f side keeper c p m

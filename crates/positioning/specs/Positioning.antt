@@ -81,9 +81,13 @@ seen_condition None m g f side goalkeeper avoidance = NoCondition
 seen_condition (Some p) None g f side goalkeeper avoidance = NoCondition
 seen_condition (Some p) (Some m) g f side goalkeeper avoidance = set_play_condition g.set_play g f side goalkeeper avoidance p m
 
--- in Set and Playing outside the shoot-out, an unpenalised player
+-- in Set or Playing outside the shoot-out
+abbrev pub is_set_or_playing : Game → Bool
+is_set_or_playing g = not (is_shootout g.phase) && (is_set g.state || is_playing g.state)
+
+-- an unpenalised player in Set or Playing outside the shoot-out
 abbrev pub is_judged : Game → Penalty → Bool
-is_judged g penalty = not (is_shootout g.phase) && (is_set g.state || is_playing g.state) && is_unpenalized penalty
+is_judged g penalty = is_set_or_playing g && is_unpenalized penalty
 
 -- the condition that settles the verdict on the player with this number, given its team's goalkeeper
 unfoldable pub condition_of : Game → FieldDimensions → Ball → Side → Option ℕ → ℕ → Player → Option Margins → Condition
@@ -110,9 +114,9 @@ is_set_play ThrowIn = true
 is_set_play GoalKick = true
 is_set_play CornerKick = true
 
--- in Set and Playing outside the shoot-out, while a set play is on; otherwise nobody has a condition
+-- in Set or Playing outside the shoot-out while a set play is on; otherwise nobody has a condition
 abbrev pub is_judging : Game → Bool
-is_judging g = is_set_play g.set_play && (not (is_shootout g.phase) && (is_set g.state || is_playing g.state))
+is_judging g = is_set_play g.set_play && is_set_or_playing g
 
 -- ---- the verdict
 -- the verdict on the player with this number, given its team's goalkeeper: that which the condition settles

@@ -112,20 +112,25 @@ fn penalty_kick_condition(
     Condition::NoCondition
 }
 
-// Whether positions are judged: in Set and Playing outside the shoot-out, of an unpenalised player.
+// Whether the game is in Set or Playing outside the shoot-out.
+pub fn is_set_or_playing(game: Game) -> bool
+    ensures { result ≡ Spec.is_set_or_playing game }
+{
+    let shootout = game::is_shootout(game.phase);
+    let set = game::is_set(game.state);
+    let playing = game::is_playing(game.state);
+    !shootout & (set | playing)
+}
+
+// Whether a player's position is judged, which no penalised one's is.
 fn is_judged(game: Game, penalty: Penalty) -> bool
     ensures { result ≡ Spec.is_judged game penalty }
 {
-    let phase = game.phase;
-    let state = game.state;
-    let shootout = game::is_shootout(phase);
-    let set = game::is_set(state);
-    let playing = game::is_playing(state);
     let unpenalized = game::is_unpenalized(penalty);
-    !shootout & (set | playing) & unpenalized
+    is_set_or_playing(game) & unpenalized
 }
 
-// The condition that settles the verdict on a player's position.
+// The condition that settles the verdict on a player's position. What judges a side stays four parameters: as one struct it is taken apart in each body, and each clause names its four fields.
 #[tactic(auto, unfolding(crate::specs::Positioning::condition_of))]
 pub fn condition_of(
     game: Game,
@@ -139,19 +144,13 @@ pub fn condition_of(
 ) -> Condition
     ensures { result ≡ Spec.condition_of game field ball side goalkeeper number player margins }
 {
-    let penalty = player.penalty;
-    let pose = player.pose;
-    let set_play = game.set_play;
-    if !is_judged(game, penalty) {
+    if !is_judged(game, player.penalty) {
         return Condition::NoCondition;
     }
-    let Some(p) = pose else {
+    let (Some(p), Some(m)) = (player.pose, margins) else {
         return Condition::NoCondition;
     };
-    let Some(m) = margins else {
-        return Condition::NoCondition;
-    };
-    match set_play {
+    match game.set_play {
         SetPlay::NoSetPlay => Condition::NoCondition,
         SetPlay::KickOff => kick_off_condition(game, field, side, p),
         SetPlay::PenaltyKick => {
@@ -166,13 +165,8 @@ pub fn condition_of(
 pub fn is_judging(game: Game) -> bool
     ensures { result ≡ Spec.is_judging game }
 {
-    let phase = game.phase;
-    let state = game.state;
     let set_play = game.set_play;
-    let shootout = game::is_shootout(phase);
-    let set = game::is_set(state);
-    let playing = game::is_playing(state);
-    (set_play != SetPlay::NoSetPlay) & !shootout & (set | playing)
+    (set_play != SetPlay::NoSetPlay) & is_set_or_playing(game)
 }
 
 // The conditions on a team's players by their places. For both sides' verdicts and the coach's lines there is this one loop, so that the compiler has the walk inside it.

@@ -222,10 +222,7 @@ fn whole(walk: Walk) -> bool
 fn counted_by(line: Option<Row>, n: usize) -> bool
     ensures { result ≡ Steps.counted_by line n }
 {
-    match line {
-        None => true,
-        Some(row) => !(row.kind == 0) | (row.number as usize + 1 == n),
-    }
+    line.is_none_or(|row| !(row.kind == 0) | (row.number as usize + 1 == n))
 }
 
 // The first refusal, where there is one.

@@ -61,10 +61,7 @@ pub fn record_at(list: &[u8], at: usize) -> Option<Record>
 fn byte_at(text: &[u8], i: usize, fill: u8) -> u8
     ensures { result ≡ get_or text.now i fill }
 {
-    if i < text.len() {
-        return text[i];
-    }
-    fill
+    text.get(i).copied().unwrap_or(fill)
 }
 
 // Whether the bytes begin with this text, and go on as they were lent, each of them `fill`.

@@ -10,8 +10,13 @@ use lib.IntN.{ℤ, pos}
 use lib.ListN.{length, set}
 use Rattle.lists.specs.Put.{fronted}
 use Rattle.game.specs.declared.Situation.{Situation}
-use Rattle.decision.specs.Decision.{decision_of, empty_decision, answer_of}
-use Rattle.decision.specs.declared.call.Answer.{Answer}
+use Rattle.decision.specs.Decision.{Answer, decision_of, empty_decision, answer_of, answered}
+use Rattle.decision.proofs.Told.{answered_number}
+use Rattle.game.specs.declared.Decision.{Decision}
+use Rattle.refusal.specs.Refusal.{number_of}
+use Rattle.refusal.specs.declared.Refusal.{Refusal}
+use Rattle.refusal.proofs.Told.{not_refused, refused_by}
+use Rattle.std.specs.Prelude.{Ok, Err}
 use Rattle.words.specs.Words.{situation_of}
 use Rattle.referee_c.specs.Entries.{minus, place_count, words_with, place_words, placed_number, is_place_asked, place_number, place_after}
 
@@ -47,10 +52,13 @@ module _ (ws : List ℕ) (xs ys : List Float) (place : List ℕ) where
   place_unasked f =
       (ap (λ (b : Bool). cond b (placed_number answer) (minus 100)) (sym f), ap (λ (b : Bool). cond b (fronted (place_words answer.decision.place) place) place) (sym f))
 
-  -- they are asked, and a is the answer to their situation
-  module _ (asked : is_place_asked ws (length place) ≡ true) (s : Situation) (same : s ≡ situation_of ws) (a : Answer) (told : a ≡ answer_of s xs ys) where
+  -- they are asked, and s is their situation
+  module _ (asked : is_place_asked ws (length place) ≡ true) (s : Situation) (same : s ≡ situation_of ws) where
+    abbrev a : Answer
+    a = answer_of s xs ys
+
     known : a ≡ answer
-    known = told ∙ ap (λ (u : Situation). answer_of u xs ys) same
+    known = ap (λ (u : Situation). answer_of u xs ys) same
 
     number_told : placed_number a ≡ place_number ws xs ys (length place)
     unfolding place_number
@@ -61,13 +69,19 @@ module _ (ws : List ℕ) (xs ys : List Float) (place : List ℕ) where
     after_told = ap (λ (z : Answer). fronted (place_words z.decision.place) place) known ∙ ap (λ (b : Bool). cond b (fronted (place_words answer.decision.place) place) place) (sym asked)
 
     -- the situation is refused: the decision beside it has no place
-    pub place_refused : (a.refusal ≡ 0 → ⊥) → (minus a.refusal ≡ place_number ws xs ys (length place)) × (place ≡ place_after ws xs ys place)
+    pub place_refused : (own : Refusal) → Err own ≡ answered a → (minus (number_of own) ≡ place_number ws xs ys (length place)) × (place ≡ place_after ws xs ys place)
     unfolding fronted
-    place_refused h =
-        let no_place : place_words a.decision.place ≡ [] = ap (λ (z : Answer). place_words z.decision.place) told ∙ no_words s xs ys (λ e. h (ap (λ (z : Answer). z.refusal) told ∙ e)) in
-        (ap (λ (b : Bool). cond b (pos (place_count a.decision.place)) (minus a.refusal)) (sym (ne_eqb a.refusal 0 h)) ∙ number_told, sym (ap (λ (l : List ℕ). fronted l place) no_place) ∙ after_told)
+    place_refused own e =
+        let h = (refused_by a.refusal a.decision own e).0 in (
+          ap minus (answered_number s xs ys own e) ∙ ap (λ (b : Bool). cond b (pos (place_count a.decision.place)) (minus a.refusal)) (sym (ne_eqb a.refusal 0 h)) ∙ number_told,
+          sym (ap (λ (l : List ℕ). fronted l place) (no_words s xs ys h)) ∙ after_told,
+        )
 
     -- it is decided, and its place is written
-    pub place_written : (n : ℤ) (next : List ℕ) → a.refusal ≡ 0 → n ≡ pos (place_count a.decision.place) → next ≡ fronted (place_words a.decision.place) place
+    pub place_written : (d : Decision) → Ok d ≡ answered a → (n : ℤ) (next : List ℕ) → n ≡ pos (place_count d.place) → next ≡ fronted (place_words d.place) place
         → (n ≡ place_number ws xs ys (length place)) × (next ≡ place_after ws xs ys place)
-    place_written n next z e p = (e ∙ ap (λ (b : Bool). cond b (pos (place_count a.decision.place)) (minus a.refusal)) (sym (eq-eqb a.refusal 0 z)) ∙ number_told, p ∙ after_told)
+    place_written d e n next en ep =
+        let known_d = not_refused a.refusal a.decision d e in (
+          en ∙ ap (λ (z : Decision). pos (place_count z.place)) known_d.1 ∙ ap (λ (b : Bool). cond b (pos (place_count a.decision.place)) (minus a.refusal)) (sym (eq-eqb a.refusal 0 known_d.0)) ∙ number_told,
+          ep ∙ ap (λ (z : Decision). fronted (place_words z.place) place) known_d.1 ∙ after_told,
+        )

@@ -8,8 +8,7 @@ use Rattle.lists.specs.Put.{fronted}
 use Rattle.game.specs.Codes.{side_code}
 use Rattle.game.specs.declared.Placement.{Placement}
 use Rattle.game.specs.declared.Placement.TheVariants.{NoPlace, BallAt, PlayerAt}
-use Rattle.decision.specs.Decision.{answer_of}
-use Rattle.decision.specs.declared.call.Answer.{Answer}
+use Rattle.decision.specs.Decision.{Answer, answer_of}
 use Rattle.columns.specs.Layout.{word_count}
 use Rattle.columns.specs.Columns.{words_within, is_situation}
 use Rattle.words.specs.Words.{side_of, situation_of}

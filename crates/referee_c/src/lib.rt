@@ -16,12 +16,13 @@ ghost use Rattle.referee_c.specs.Entries as Spec;
 
 use call::SheetFor;
 use columns::layout::WORDS;
-use game::Placement;
+use game::{Earlier, Placement};
 use lines::Row;
 use reading::NoSheet;
 use refusal::Refusal;
+use tries::Span;
 
-// A refusal as its number below 0.
+// A refusal as its number below 0. A number, as the C interface has it: two enums of refusals go through here, and 100 and 101, which are of neither.
 fn minus(n: u8) -> i64
     ensures { result ≡ Spec.minus n }
 {
@@ -56,15 +57,9 @@ pub extern "C" fn referee_check(words: &[u32]) -> i64
 }
 
 // Decides on the situation that the words are and writes its sheet, for the desk or the display.
-fn write_sheet<'a>(
-    to: SheetFor,
-    words: &[u32],
-    xs: &'a [f32],
-    ys: &'a [f32],
-    sheet: &mut [u8],
-) -> i64
-    ensures value { result ≡ Spec.number_for to words.now xs.now ys.now (length sheet.old) }
-    ensures sheet_after { sheet.new ≡ Spec.bytes_for to words.now xs.now ys.now sheet.old }
+fn write_sheet(to: SheetFor, words: &[u32], earlier: Earlier<'_>, sheet: &mut [u8]) -> i64
+    ensures value { result ≡ Spec.number_for to words.now earlier.entry.xs.now earlier.entry.ys.now (length sheet.old) }
+    ensures sheet_after { sheet.new ≡ Spec.bytes_for to words.now earlier.entry.xs.now earlier.entry.ys.now sheet.old }
 {
     if !mode::is_ieee_mode(words.len()) {
         return minus(101);
@@ -72,7 +67,7 @@ fn write_sheet<'a>(
     let situation = columns::is_situation(words);
     if situation {
         let s = words::situation_of(words);
-        let answer = call::write_sheet(to, s, xs, ys, sheet);
+        let answer = call::write_sheet(to, s, earlier, sheet);
         return answer_number(answer);
     }
     minus(100)
@@ -89,7 +84,7 @@ pub extern "C" fn referee_sheet<'a>(
     ensures value { result ≡ Spec.sheet_number words.now xs.now ys.now (length sheet.old) }
     ensures sheet_after { sheet.new ≡ Spec.sheet_bytes words.now xs.now ys.now sheet.old }
 {
-    write_sheet(SheetFor::Desk, words, xs, ys, sheet)
+    write_sheet(SheetFor::Desk, words, Earlier { xs, ys }, sheet)
 }
 
 // The same for the display, which shows at most twelve lines under the header: 12 for more of them, after 5 and before 7.
@@ -103,7 +98,7 @@ pub extern "C" fn referee_display<'a>(
     ensures value { result ≡ Spec.display_number words.now xs.now ys.now (length sheet.old) }
     ensures sheet_after { sheet.new ≡ Spec.display_bytes words.now xs.now ys.now sheet.old }
 {
-    write_sheet(SheetFor::Display, words, xs, ys, sheet)
+    write_sheet(SheetFor::Display, words, Earlier { xs, ys }, sheet)
 }
 
 // Writes the coach's line on one player of the situation that the words are at the front of the lent text. Answers the line's length, 0 for a player that stands legally, or a refusal.
@@ -125,7 +120,8 @@ pub extern "C" fn referee_coach<'a>(
     if columns::is_situation(words) & (side <= 1) {
         let s = words::situation_of(words);
         let team = words::side_of(side);
-        let answer = call::write_sentence(s, xs, ys, team, number, text);
+        let earlier = Earlier { xs, ys };
+        let answer = call::write_sentence(s, earlier, team, number, text);
         return answer_number(answer);
     }
     minus(100)
@@ -186,15 +182,14 @@ pub extern "C" fn referee_place<'a>(
     }
     if columns::is_situation(words) & (5 <= place.len()) {
         let s = words::situation_of(words);
-        let answer = decision::decide(s, xs, ys);
-        let refusal = answer.refusal;
-        let refused = refusal != 0;
-        if refused {
-            return minus(refusal);
-        }
-        let d = answer.decision;
-        let p = d.place;
-        return write_place(p, place);
+        let earlier = Earlier { xs, ys };
+        return match decision::decide(s, earlier) {
+            Err(own) => minus(refusal::number_of(own)),
+            Ok(d) => {
+                let p = d.place;
+                write_place(p, place)
+            }
+        };
     }
     minus(100)
 }
@@ -262,10 +257,16 @@ pub extern "C" fn referee_candidates(
         return minus(101);
     }
     let len = list.len();
-    let n = candidates::fill_candidates(start, min, max, step, list);
+    let span = Span {
+        start,
+        min,
+        max,
+        step,
+    };
+    let n = candidates::fill_candidates(span, list);
     if n == 0 {
-        let refusal = candidates::candidates_refusal(start, min, max, step, len);
-        return minus(refusal);
+        let refusal = candidates::candidates_refusal(span, len);
+        return minus(refusal::number_in(refusal));
     }
     n as i64
 }

@@ -9,7 +9,7 @@ use Rattle.std.specs.Prelude.{⊤, Result, Ok, Err}
 use Rattle.lists.proofs.Bools.{by_test}
 use Rattle.refusal.specs.Refusal.{number_of, refusal_numbered, refused, unless_refused, number_in}
 use Rattle.refusal.specs.declared.Refusal.{Refusal}
-use Rattle.refusal.specs.declared.Refusal.TheVariants.{Field, Pose, Ball, Number, Distance, SheetRoom, TextRoom, Display}
+use Rattle.refusal.specs.declared.Refusal.TheVariants.{Field, Pose, Ball, Number, Distance, ListRoom, SheetRoom, TextRoom, Display}
 
 -- ---- one and the other are not equal
 pub ok_same : {A E : Type 0} {u v : A} → ◌≡◌ {A = Result A E} (Ok u) (Ok v) → u ≡ v
@@ -43,6 +43,7 @@ numbered_back Pose = refl
 numbered_back Ball = refl
 numbered_back Number = refl
 numbered_back Distance = refl
+numbered_back ListRoom = refl
 numbered_back SheetRoom = refl
 numbered_back TextRoom = refl
 numbered_back Display = refl
@@ -55,6 +56,7 @@ unless_back (Err Pose) = refl
 unless_back (Err Ball) = refl
 unless_back (Err Number) = refl
 unless_back (Err Distance) = refl
+unless_back (Err ListRoom) = refl
 unless_back (Err SheetRoom) = refl
 unless_back (Err TextRoom) = refl
 unless_back (Err Display) = refl

@@ -1,7 +1,7 @@
 -- The refusals by their numbers. Definitions only.
 use Rattle.std.specs.Prelude.{cond, Result, Ok, Err, ℕ, eqb}
 use Rattle.refusal.specs.declared.Refusal.{Refusal}
-use Rattle.refusal.specs.declared.Refusal.TheVariants.{Field, Pose, Ball, Number, Distance, SheetRoom, TextRoom, Display}
+use Rattle.refusal.specs.declared.Refusal.TheVariants.{Field, Pose, Ball, Number, Distance, ListRoom, SheetRoom, TextRoom, Display}
 
 -- the number of each
 abbrev pub number_of : Refusal → ℕ
@@ -10,11 +10,12 @@ number_of Pose = 2
 number_of Ball = 3
 number_of Number = 4
 number_of Distance = 5
+number_of ListRoom = 6
 number_of SheetRoom = 7
 number_of TextRoom = 8
 number_of Display = 12
 
--- the one with a number, of the eight
+-- the one with a number, of the nine
 abbrev pub refusal_numbered : ℕ → Refusal
 refusal_numbered n =
     cond (eqb n 1) Field
@@ -22,8 +23,9 @@ refusal_numbered n =
     (cond (eqb n 3) Ball
     (cond (eqb n 4) Number
     (cond (eqb n 5) Distance
+    (cond (eqb n 6) ListRoom
     (cond (eqb n 7) SheetRoom
-    (cond (eqb n 8) TextRoom Display))))))
+    (cond (eqb n 8) TextRoom Display)))))))
 
 -- a refusal by its number
 abbrev pub refused : {A : Type 0} → ℕ → Result A Refusal

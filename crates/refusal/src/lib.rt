@@ -5,7 +5,7 @@ ghost use Rattle.std.specs.Prelude.{◌≡◌};
 ghost use Rattle.refusal.specs.Refusal as Spec;
 
 // Why a situation is not judged, or a call not answered, by the number of the refusal.
-#[derive(Clone, Copy, PartialEq, Eq)]
+#[derive(Clone, Copy, PartialEq, Eq, PartialOrd, Ord)]
 pub enum Refusal {
     // A size of the field.
     Field = 1,
@@ -15,8 +15,10 @@ pub enum Refusal {
     Ball = 3,
     // A player number.
     Number = 4,
-    // The distance between placed players.
+    // The distance between placed players, or what candidates are asked for.
     Distance = 5,
+    // The lent places are too few for the candidates.
+    ListRoom = 6,
     // The lent bytes are too few for the sheet.
     SheetRoom = 7,
     // They are too few for the coach's line.

@@ -17,7 +17,7 @@ use Rattle.game.specs.declared.Side.{Side}
 use Rattle.game.specs.declared.Side.TheVariants.{Home, Away}
 use Rattle.game.specs.declared.Situation.{Situation}
 use Rattle.game.specs.declared.Team.{Team}
-use Rattle.refusals.specs.Refusals.{within, is_size, is_coordinate, is_player_number, seen_fits, reference_fits, player_fits, team_fits, poses_fit, lists_fit, field_fits, ball_fits, numbers_fit, wish_fits, restart_fits, number_fits, distance_fits, five, requirements_of, refusal_of}
+use Rattle.refusals.specs.Refusals.{within, is_size, is_coordinate, is_player_number, maybe_pose_fits, player_fits, team_fits, poses_fit, lists_fit, field_fits, ball_fits, numbers_fit, wish_fits, restart_fits, number_fits, distance_fits, five, requirements_of, refusal_of}
 
 -- ---- the five requirements
 pub record Accepted (s : Situation) (xs ys : List Float) : Type 0 where
@@ -81,9 +81,9 @@ field_ranges f e =
     }
 
 -- ---- a player by its number, which names one of the twenty, whose pose was looked at
-pub numbered_fits : (t : Team) → team_fits t ≡ true → (n : ℕ) → is_player_number n ≡ true → seen_fits (player_numbered t n).pose ≡ true
+pub numbered_fits : (t : Team) → team_fits t ≡ true → (n : ℕ) → is_player_number n ≡ true → maybe_pose_fits (player_numbered t n).pose ≡ true
 numbered_fits t e zero k = refl
-numbered_fits t e (suc i) k = left_true (seen_fits (player_at t i).pose) (reference_fits (player_at t i).reference) (left_true (seen_fits (player_at t i).pose && reference_fits (player_at t i).reference) (is_coordinate (player_at t i).allowance) each)
+numbered_fits t e (suc i) k = left_true (maybe_pose_fits (player_at t i).pose) (maybe_pose_fits (player_at t i).reference) (left_true (maybe_pose_fits (player_at t i).pose && maybe_pose_fits (player_at t i).reference) (is_coordinate (player_at t i).allowance) each)
   where
     small : i < 20
     small = omega (arith, leb-true (suc i) 20 (both_true (leb 1 (suc i)) (leb (suc i) 20) k).1)

@@ -10,7 +10,7 @@ use Rattle.refusal.specs.Refusal.{unless_refused, number_in}
 use Rattle.refusal.specs.declared.Refusal.{Refusal}
 use Rattle.refusals.specs.Refusals.{field_fits, poses_fit, ball_fits, numbers_fit, distance_fits, five, requirements_of, refusal_of}
 
-five_back : {A : Type 0} (x : A) (a b c d e : Bool) → number_in (unless_refused (first_refusal (five a b c d e)) x) ≡ first_refusal (five a b c d e)
+pub five_back : {A : Type 0} (x : A) (a b c d e : Bool) → number_in (unless_refused (first_refusal (five a b c d e)) x) ≡ first_refusal (five a b c d e)
 five_back x false b c d e = refl
 five_back x true false c d e = refl
 five_back x true true false d e = refl

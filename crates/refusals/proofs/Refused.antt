@@ -16,10 +16,10 @@ use Rattle.game.specs.declared.Ball.{Ball}
 use Rattle.game.specs.declared.Player.{Player}
 use Rattle.game.specs.declared.PlayerPose.{PlayerPose}
 use Rattle.game.specs.declared.Team.{Team}
-use Rattle.geometry.specs.Turned.{signed, changed_pose, changed_seen, changed_reference, changed_player, changed_team, changed_ball}
+use Rattle.geometry.specs.Turned.{signed, changed_pose, changed_maybe_pose, changed_player, changed_team, changed_ball}
 use Rattle.geometry.proofs.Turned.{player_at_changed, place_at_changed}
 use Rattle.lists.proofs.Bools.{and_swap}
-use Rattle.refusals.specs.Refusals.{is_coordinate, is_radius, pose_fits, seen_fits, reference_fits, player_fits, team_fits, places_fit, lists_fit, poses_fit, ball_fits}
+use Rattle.refusals.specs.Refusals.{is_coordinate, is_radius, pose_fits, maybe_pose_fits, player_fits, team_fits, places_fit, lists_fit, poses_fit, ball_fits}
 use Rattle.std.specs.Prelude.{Option, None, Some}
 
 -- a coordinate of either sign
@@ -32,16 +32,12 @@ pose_fits_changed : (a b : Bool) (p : PlayerPose) → pose_fits (changed_pose a 
 unfolding pose_fits
 pose_fits_changed a b p = ap₂ (λ (u v : Bool). u && v && is_coordinate p.theta && is_radius p.radius) (coordinate_changed a p.x) (coordinate_changed b p.y)
 
-seen_fits_changed : (a b : Bool) (p : Option PlayerPose) → seen_fits (changed_seen a b p) ≡ seen_fits p
-seen_fits_changed a b None = refl
-seen_fits_changed a b (Some p) = pose_fits_changed a b p
-
-reference_fits_changed : (a b : Bool) (p : Option PlayerPose) → reference_fits (changed_reference a b p) ≡ reference_fits p
-reference_fits_changed a b None = refl
-reference_fits_changed a b (Some p) = pose_fits_changed a b p
+maybe_pose_fits_changed : (a b : Bool) (p : Option PlayerPose) → maybe_pose_fits (changed_maybe_pose a b p) ≡ maybe_pose_fits p
+maybe_pose_fits_changed a b None = refl
+maybe_pose_fits_changed a b (Some p) = pose_fits_changed a b p
 
 player_fits_changed : (a b : Bool) (q : Player) → player_fits (changed_player a b q) ≡ player_fits q
-player_fits_changed a b q = ap₂ (λ (u v : Bool). u && v && is_coordinate q.allowance) (seen_fits_changed a b q.pose) (reference_fits_changed a b q.reference)
+player_fits_changed a b q = ap₂ (λ (u v : Bool). u && v && is_coordinate q.allowance) (maybe_pose_fits_changed a b q.pose) (maybe_pose_fits_changed a b q.reference)
 
 pub team_fits_changed : (a b : Bool) (t : Team) → team_fits (changed_team a b t) ≡ team_fits t
 unfolding team_fits

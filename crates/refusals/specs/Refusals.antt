@@ -55,17 +55,14 @@ is_radius r = lt zero32 r && le r one
 unfoldable pub pose_fits : PlayerPose → Bool
 pose_fits p = is_coordinate p.x && is_coordinate p.y && is_coordinate p.theta && is_radius p.radius
 
-abbrev pub seen_fits : Option PlayerPose → Bool
-seen_fits None = true
-seen_fits (Some p) = pose_fits p
-
-abbrev pub reference_fits : Option PlayerPose → Bool
-reference_fits None = true
-reference_fits (Some p) = pose_fits p
+-- the pose that is seen or that motion is measured from, where it is there
+abbrev pub maybe_pose_fits : Option PlayerPose → Bool
+maybe_pose_fits None = true
+maybe_pose_fits (Some p) = pose_fits p
 
 -- the allowance of an absent player too
 abbrev pub player_fits : Player → Bool
-player_fits p = seen_fits p.pose && reference_fits p.reference && is_coordinate p.allowance
+player_fits p = maybe_pose_fits p.pose && maybe_pose_fits p.reference && is_coordinate p.allowance
 
 -- each of the 20 players
 unfoldable pub team_fits : Team → Bool

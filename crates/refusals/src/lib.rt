@@ -6,7 +6,7 @@ ghost use Rattle.lists.specs.Refusals.{first_refusal};
 ghost use Rattle.refusal.specs.Refusal.{unless_refused};
 ghost use Rattle.refusals.specs.Refusals as Spec;
 
-use game::{FieldDimensions, Player, PlayerPose, Restart, Situation, Team, Wish};
+use game::{Earlier, FieldDimensions, Player, PlayerPose, Restart, Situation, Team, Wish};
 use refusal::Refusal;
 
 // From lo to hi. A NaN is not.
@@ -42,7 +42,8 @@ fn field_fits(f: FieldDimensions) -> bool
         & is_size(f.ball_radius)
 }
 
-fn is_coordinate(x: f32) -> bool
+// At most 64 either way.
+pub fn is_coordinate(x: f32) -> bool
     ensures { result ≡ Spec.is_coordinate x }
 {
     is_within(-64.0, x, 64.0)
@@ -58,22 +59,10 @@ fn pose_fits(p: PlayerPose) -> bool
         & ((0.0 < p.radius) & (p.radius <= 1.0))
 }
 
-fn seen_fits(pose: Option<PlayerPose>) -> bool
-    ensures { result ≡ Spec.seen_fits pose }
+fn maybe_pose_fits(pose: Option<PlayerPose>) -> bool
+    ensures { result ≡ Spec.maybe_pose_fits pose }
 {
-    match pose {
-        None => true,
-        Some(p) => pose_fits(p),
-    }
-}
-
-fn reference_fits(pose: Option<PlayerPose>) -> bool
-    ensures { result ≡ Spec.reference_fits pose }
-{
-    match pose {
-        None => true,
-        Some(p) => pose_fits(p),
-    }
+    pose.is_none_or(pose_fits)
 }
 
 // By `&` of two tests: one `match` in the other has the test of a pose four times, and the loop over a team is then no longer compiled into its caller.
@@ -82,7 +71,7 @@ fn player_fits(p: Player) -> bool
 {
     let pose = p.pose;
     let reference = p.reference;
-    seen_fits(pose) & reference_fits(reference) & is_coordinate(p.allowance)
+    maybe_pose_fits(pose) & maybe_pose_fits(reference) & is_coordinate(p.allowance)
 }
 
 fn team_fits(team: Team) -> bool
@@ -113,42 +102,30 @@ fn is_player_number(n: u8) -> bool
     (game::MIN <= n) & (n <= game::MAX)
 }
 
-fn number_fits(n: Option<u8>) -> bool
+// Whether a number that may be missing is a player's where it is there.
+pub fn number_fits(n: Option<u8>) -> bool
     ensures { result ≡ Spec.number_fits n }
 {
-    match n {
-        None => true,
-        Some(k) => is_player_number(k),
-    }
+    n.is_none_or(is_player_number)
 }
 
 fn restart_fits(restart: Option<Restart>) -> bool
     ensures { result ≡ Spec.restart_fits restart }
 {
-    match restart {
-        None => true,
-        Some(r) => {
-            let kicker = r.kicker;
-            number_fits(kicker)
-        }
-    }
+    restart.is_none_or(|r| number_fits(r.kicker))
 }
 
 fn wish_fits(wish: Wish) -> bool
     ensures { result ≡ Spec.wish_fits wish }
 {
     match wish {
-        Wish::Nothing => true,
-        Wish::BallAtRestart => true,
-        Wish::BallInSet => true,
-        Wish::ForPenalty(_, n) => is_player_number(n),
-        Wish::ForPenaltyShot(_, n) => is_player_number(n),
-        Wish::Goalkeeper(_) => true,
+        Wish::ForPenalty(_, n) | Wish::ForPenaltyShot(_, n) => is_player_number(n),
+        Wish::Nothing | Wish::BallAtRestart | Wish::BallInSet | Wish::Goalkeeper(_) => true,
     }
 }
 
 // The refusal of the first of the five that does not hold, where there is one.
-fn first_failing(
+pub fn first_failing(
     field: bool,
     poses: bool,
     ball: bool,
@@ -177,8 +154,8 @@ fn first_failing(
 
 // The first refusal, where there is one.
 #[tactic(auto, unfolding(crate::specs::Refusals::refusal_of, crate::specs::Refusals::requirements_of, crate::specs::Refusals::numbers_fit, crate::specs::Refusals::poses_fit, crate::specs::Refusals::lists_fit))]
-pub fn refusal<'a>(s: Situation, xs: &'a [f32], ys: &'a [f32]) -> Result<(), Refusal>
-    ensures { result ≡ unless_refused (Spec.refusal_of s xs.now ys.now) tt }
+pub fn refusal(s: Situation, earlier: Earlier<'_>) -> Result<(), Refusal>
+    ensures { result ≡ unless_refused (Spec.refusal_of s earlier.entry.xs.now earlier.entry.ys.now) tt }
 {
     let field = s.field;
     let home = s.home;
@@ -189,6 +166,8 @@ pub fn refusal<'a>(s: Situation, xs: &'a [f32], ys: &'a [f32]) -> Result<(), Ref
     let restart = s.restart;
     let wish = s.wish;
     let distance = s.penalty_placement_distance;
+    let xs = earlier.xs;
+    let ys = earlier.ys;
     let a = field_fits(field);
     let b = team_fits(home)
         & team_fits(away)

@@ -34,36 +34,30 @@ fn allowance_at(pose: Option<PlayerPose>, field: FieldDimensions) -> Option<f32>
     pose.map(|p| floats::max(geometry::carpet_excess(p, field), 0.0))
 }
 
-// The same with another part of it.
-fn returning_with(r: Remembered, returning: bool, return_allowance: Option<f32>) -> Remembered
-    ensures { result ≡ Spec.returning_with r returning return_allowance }
-{
-    Remembered {
-        returning,
-        return_allowance,
-        left_avoidance: r.left_avoidance,
-        in_goal_area: r.in_goal_area,
-        present: r.present,
-    }
-}
-
 // Whether a player is returning from a penalty, and its allowance.
 #[tactic(auto, unfolding(crate::specs::Remembered::update_returning))]
 fn update_returning(field: FieldDimensions, player: Player, r: Remembered) -> Remembered
     ensures { result ≡ Spec.update_returning field player r }
 {
-    let penalty = player.penalty;
-    let pose = player.pose;
-    let allowance = r.return_allowance;
-    if !game::is_unpenalized(penalty) {
-        return returning_with(r, true, None);
+    if !game::is_unpenalized(player.penalty) {
+        return Remembered {
+            returning: true,
+            return_allowance: None,
+            ..r
+        };
     }
-    if is_on_field_of_play(pose, field) {
-        return returning_with(r, false, None);
+    if is_on_field_of_play(player.pose, field) {
+        return Remembered {
+            returning: false,
+            return_allowance: None,
+            ..r
+        };
     }
-    if r.returning & allowance.is_none() {
-        let next = allowance_at(pose, field);
-        return returning_with(r, true, next);
+    if r.returning & r.return_allowance.is_none() {
+        return Remembered {
+            return_allowance: allowance_at(player.pose, field),
+            ..r
+        };
     }
     r
 }
@@ -103,26 +97,12 @@ fn framed_player(
 ) -> Remembered
     ensures { result ≡ Spec.framed_player begun active game field ball side player margins r }
 {
-    let pose = player.pose;
-    let present = game::is_present(pose);
-    let returned = update_returning(field, player, r);
-    let allowance = returned.return_allowance;
-    let left = update_avoidance(
-        active,
-        game,
-        field,
-        ball,
-        side,
-        player,
-        margins,
-        r.left_avoidance & !begun,
-    );
+    let before = r.left_avoidance & !begun;
+    let left = update_avoidance(active, game, field, ball, side, player, margins, before);
     Remembered {
-        returning: returned.returning,
-        return_allowance: allowance,
         left_avoidance: left,
-        in_goal_area: r.in_goal_area,
-        present,
+        present: game::is_present(player.pose),
+        ..update_returning(field, player, r)
     }
 }
 
@@ -163,16 +143,10 @@ fn tolerated(allowance: Option<f32>) -> f32
 fn judged_player(player: Player, r: Remembered) -> Player
     ensures { result ≡ Spec.judged_player player r }
 {
-    let pose = player.pose;
-    let reference = player.reference;
-    let penalty = player.penalty;
-    let allowance = r.return_allowance;
     Player {
-        pose,
-        reference,
-        penalty,
-        allowance: tolerated(allowance),
+        allowance: tolerated(r.return_allowance),
         previously_inside: r.in_goal_area,
+        ..player
     }
 }
 
@@ -185,17 +159,13 @@ fn mapped_team<F: Fn(Player, Remembered) -> Player>(
     requires { F.IsAlwaysCallable change }
     ensures { (by : _) → Spec.Gives (F.post change) by → result ≡ Spec.mapped_team by team remembered }
 {
-    let goalkeeper = team.goalkeeper;
     let mut players = team.players;
     for i in 0..20 {
         let player = players[i];
         let r = remembered[i];
         players[i] = change(player, r);
     }
-    Team {
-        players,
-        goalkeeper,
-    }
+    Team { players, ..team }
 }
 
 // A team with what is remembered of its players in place of what the frame says: allowances and who was inside.
@@ -209,21 +179,15 @@ pub fn judged_team(team: Team, remembered: [Remembered; 20]) -> Team
 fn last_seen_player(player: Player, r: Remembered) -> Player
     ensures { result ≡ Spec.last_seen_player player r }
 {
-    let reference = player.reference;
-    let penalty = player.penalty;
     let there = PlayerPose {
         x: 0.0,
         y: 0.0,
         theta: 0.0,
         radius: 0.0,
     };
-    let pose = r.present.then_some(there);
     Player {
-        pose,
-        reference,
-        penalty,
-        allowance: player.allowance,
-        previously_inside: player.previously_inside,
+        pose: r.present.then_some(there),
+        ..player
     }
 }
 

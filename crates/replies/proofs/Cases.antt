@@ -4,7 +4,7 @@ use mathlib.Core.List.{[], ◌∷◌, ◌++◌}
 use lib.ListN.{replicate}
 use Rattle.lists.specs.Gather.{flat_to}
 use Rattle.input.specs.declared.Fault.TheVariants.{LongList}
-use Rattle.replies.specs.Decimal.{decimal_from, decimal_of}
+use Rattle.text.specs.Decimal.{decimal_from, decimal_of}
 use Rattle.replies.specs.Labels.{after, labels_of}
 use Rattle.replies.specs.Names.{names}
 use Rattle.replies.specs.Replies.{label_of, word_text, place_at, place_text, fault_line, refused_line}

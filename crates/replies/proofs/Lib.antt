@@ -1,5 +1,5 @@
-pub mod Decimal
 pub mod Pieces
 mod Texts
 pub mod Places
+mod Lengths
 mod Cases

@@ -14,7 +14,7 @@ use Rattle.input.specs.declared.Fault.{Fault}
 use Rattle.input.specs.declared.Fault.TheVariants.{NotANumber, TooLarge, Outside, LongList, Missing, Extra}
 use Rattle.input.specs.Input.{count_x, count_y}
 use Rattle.input.proofs.Faults.{is_told, Known}
-use Rattle.replies.specs.Decimal.{decimal_of}
+use Rattle.text.specs.Decimal.{decimal_of}
 use Rattle.replies.specs.Replies.{word_word, open_bracket, close_bracket, number_of_x, earlier_x, number_of_y, earlier_y, label_of, word_text, place_at, place_text, colon, fault_text, fault_line}
 
 -- ---- where a number stands

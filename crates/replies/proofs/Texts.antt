@@ -14,10 +14,8 @@ use Rattle.lists.specs.Gather.{flat_to}
 use Rattle.lists.specs.Table.{table}
 use Rattle.lists.proofs.Bools.{both_true}
 use Rattle.lists.proofs.Table.{table_at}
-use Rattle.lines.specs.Over.{over}
-use Rattle.lines.proofs.Over.{over_none}
 use Rattle.columns.specs.Layout.{word_count}
-use Rattle.replies.specs.Decimal.{decimal_from}
+use Rattle.text.specs.Decimal.{decimal_from}
 use Rattle.replies.specs.Labels.{Owner, nobody, side, player, Named, named, after, labels_of}
 use Rattle.replies.specs.Names.{names}
 use Rattle.replies.specs.Texts.{names_of, texts, text_at, owners_of, places_of, owners, called, start_of, flatten}
@@ -66,7 +64,7 @@ all_short_holds : all_short texts ≡ true
 unfolding all_short texts names_of names decimal_from
 all_short_holds = refl
 
-pub text_short : (j : ℕ) → length (text_at j) ≤ 40
+text_short : (j : ℕ) → length (text_at j) ≤ 40
 text_short j = short_at texts all_short_holds j
 
 -- ---- a text by the table of the starts
@@ -89,23 +87,9 @@ between j h =
       text = ap₂ (λ (n k : ℕ). take n (drop k (flatten texts))) long here ∙ text_between texts j;
     }
 
-module _ {starts bytes : List ℕ} {j : ℕ} (known : Between starts bytes j) (at : ℕ) where
-  -- it fits where there is room for the longest
-  pub text_fits : (m : ℕ) → at + 40 ≤ m → at + length (take (get_or starts (j + 1) 0 - get_or starts j 0) (drop (get_or starts j 0) bytes)) ≤ m
-  text_fits m h = omega (arith, ap length known.text, text_short j)
-
-  -- and it is what was written
-  pub text_written : (r : ℕ) (s next : List ℕ) → r ≡ at + length (take (get_or starts (j + 1) 0 - get_or starts j 0) (drop (get_or starts j 0) bytes))
-      → next ≡ over at (take (get_or starts (j + 1) 0 - get_or starts j 0) (drop (get_or starts j 0) bytes)) s → ((r ≡ at + length (text_at j)) × (r ≤ at + 40)) × (next ≡ over at (text_at j) s)
-  text_written r s next e f =
-      let long : r ≡ at + length (text_at j) = e ∙ ap (λ (t : List ℕ). at + length t) known.text in
-      ((long, omega (arith, text_short j)), f ∙ ap (λ (t : List ℕ). over at t s) known.text)
-
--- of one that there is not, nothing is written
-pub none_written : (j at : ℕ) (s : List ℕ) → length texts ≤ j → ((at ≡ at + length (text_at j)) × (at ≤ at + 40)) × (s ≡ over at (text_at j) s)
-none_written j at s h =
-    let nothing : text_at j ≡ [] = get_or-eq_default texts [] h in
-    ((omega (arith, ap length nothing), omega arith), over_none at s ∙ ap (λ (t : List ℕ). over at t s) (sym nothing))
+-- of one that there is not, there is nothing
+pub none_there : (j : ℕ) → length texts ≤ j → [] ≡ text_at j
+none_there j h = sym (get_or-eq_default texts [] h)
 
 -- ---- what the words are called
 -- two texts, one after the other
@@ -133,6 +117,12 @@ pub label_told : (i : ℕ) → i < word_count → text_at (get_or owners i 0) ++
 unfolding label_of
 label_told i h =
     sym (joined_at owners called i (omega (arith, tables_long.0)) (omega (arith, tables_long.1))) ∙ ap (λ (l : List (List ℕ)). get_or l i []) labels_joined
+
+pub label_few : (i : ℕ) → i < word_count → length (label_of i) ≤ 80
+label_few i h =
+    let j = get_or owners i 0 in
+    let k = get_or called i 0 in
+    omega (arith, ap length (label_told i h), length-append (text_at j) (text_at k), text_short j, text_short k)
 
 -- ---- the runs of the names follow each other from the word 0 on, and end at the number of words
 -- how many groups a run has

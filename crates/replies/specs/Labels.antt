@@ -1,7 +1,7 @@
 -- What the words of a situation are called: whose a word is, and its name. Definitions only.
 use Rattle.std.specs.Prelude.{cond, List, [], ◌∷◌, ◌++◌, ℕ, ◌+◌, ◌/◌, ◌%◌, eqb}
 use Rattle.lists.specs.Gather.{flat_to}
-use Rattle.replies.specs.Decimal.{decimal_of}
+use Rattle.text.specs.Decimal.{decimal_of}
 
 -- "Home "
 abbrev pub home : List ℕ

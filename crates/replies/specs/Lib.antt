@@ -1,4 +1,3 @@
-pub mod Decimal
 pub mod Labels
 pub mod Names
 pub mod Texts

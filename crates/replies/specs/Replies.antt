@@ -6,7 +6,7 @@ use Rattle.columns.specs.Layout.{word_count}
 use Rattle.input.specs.declared.Fault.{Fault}
 use Rattle.input.specs.declared.Fault.TheVariants.{NotANumber, TooLarge, Outside, LongList, Missing, Extra}
 use Rattle.input.specs.Input.{count_x, count_y}
-use Rattle.replies.specs.Decimal.{decimal_of}
+use Rattle.text.specs.Decimal.{decimal_of}
 use Rattle.replies.specs.Labels.{labels_of}
 use Rattle.replies.specs.Names.{names}
 

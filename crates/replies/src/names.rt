@@ -3,7 +3,7 @@
 // How many texts there are: nobody, the two sides, the 40 players, and the names of the words.
 pub(crate) const TEXTS: usize = 98;
 
-// The texts, one after the other.
+// The texts, one after the other. As an array of slices, with the last two tables as one of pairs, they were tried: the writers were not proved in 4 minutes.
 pub(crate) const BYTES: [u8; 992] =
     *b"Home Away Home 1 Home 2 Home 3 Home 4 Home 5 Home 6 Home 7 Home 8 Home 9 Home 10 Home 11 Home 12 Home 13 Home 14 Home 15 Home 16 Home 17 Home 18 Home 19 Home 20 Away 1 Away 2 Away 3 Away 4 Away 5 Away 6 Away 7 Away 8 Away 9 Away 10 Away 11 Away 12 Away 13 Away 14 Away 15 Away 16 Away 17 Away 18 Away 19 Away 20 field lengthfield widthgoal widthgoal heightgoal area lengthgoal area widthpenalty area lengthpenalty area widthpenalty mark distancecenter circle radiusborder strip widthmark radiusline widthball radiuspenalty placement distancesidesstoppedphasestateset playkicking sidegoalkeeperpenaltypresentxythetaradiusreference presentreference xreference yreference thetareference radiusallowancepreviously insideball xball yball zlast contactrestartrestart kindrestart set playrestart siderestart kickerkick position xkick position yother touchkicker touched outside center circlekicker touched far from kickball moved since kickinvalid goals judgedball restedwishwished sidewished player";
 

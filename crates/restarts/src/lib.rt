@@ -23,36 +23,6 @@ pub struct TouchedRestart {
     pub call: Option<TouchCall>,
 }
 
-// The record with another kicker, kick place and flags.
-fn restart_with(
-    r: Restart,
-    kicker: Option<u8>,
-    x: f32,
-    y: f32,
-    other: bool,
-    outside: bool,
-    far: bool,
-    moved: bool,
-) -> Restart
-    ensures { result ≡ Spec.restart_with r kicker x y other outside far moved }
-{
-    let kind = r.kind;
-    let set_play = r.set_play;
-    let side = r.side;
-    Restart {
-        kind,
-        set_play,
-        side,
-        kicker,
-        kick_x: x,
-        kick_y: y,
-        other_touch: other,
-        kicker_touched_outside_center_circle: outside,
-        kicker_touched_far_from_kick: far,
-        ball_moved_since_kick: moved,
-    }
-}
-
 // How far the ball is from where it was kicked.
 fn kick_distance(r: Restart, ball: Ball) -> f32
     ensures { result ≡ Spec.kick_distance r ball }
@@ -60,24 +30,26 @@ fn kick_distance(r: Restart, ball: Ball) -> f32
     hypot::hypot(ball.x - r.kick_x, ball.y - r.kick_y)
 }
 
+// Whether the ball is outside the center circle.
+fn is_outside_circle(field: FieldDimensions, ball: Ball) -> bool
+    ensures { result ≡ Spec.is_outside_circle field ball }
+{
+    hypot::hypot(ball.x, ball.y) > field.center_circle_radius + field.ball_radius
+}
+
 // After the first touch by the side that takes the restart: this is the kick.
 #[tactic(auto, unfolding(crate::specs::Restarts::kick_taken))]
 fn kick_taken(r: Restart, number: u8, field: FieldDimensions, ball: Ball) -> Restart
     ensures { result ≡ Spec.kick_taken r number field ball }
 {
-    let kicker = Some(number);
-    let distance = hypot::hypot(ball.x, ball.y);
-    let outside = distance > field.center_circle_radius + field.ball_radius;
-    restart_with(
-        r,
-        kicker,
-        ball.x,
-        ball.y,
-        r.other_touch,
-        r.kicker_touched_outside_center_circle | outside,
-        r.kicker_touched_far_from_kick,
-        r.ball_moved_since_kick,
-    )
+    let outside = is_outside_circle(field, ball);
+    Restart {
+        kicker: Some(number),
+        kick_x: ball.x,
+        kick_y: ball.y,
+        kicker_touched_outside_center_circle: r.kicker_touched_outside_center_circle | outside,
+        ..r
+    }
 }
 
 // After another touch by the kicker, whose side has so many players on the field.
@@ -85,21 +57,14 @@ fn kick_taken(r: Restart, number: u8, field: FieldDimensions, ball: Ball) -> Res
 fn touched_again(r: Restart, field: FieldDimensions, ball: Ball, players: usize) -> Restart
     ensures { result ≡ Spec.touched_again r field ball players }
 {
-    let kicker = r.kicker;
-    let distance = hypot::hypot(ball.x, ball.y);
-    let outside = distance > field.center_circle_radius + field.ball_radius;
+    let outside = is_outside_circle(field, ball);
     let from_kick = kick_distance(r, ball);
     let far = (players <= 2) & (from_kick >= 2.0 * field.center_circle_radius);
-    restart_with(
-        r,
-        kicker,
-        r.kick_x,
-        r.kick_y,
-        r.other_touch,
-        r.kicker_touched_outside_center_circle | outside,
-        r.kicker_touched_far_from_kick | far,
-        r.ball_moved_since_kick,
-    )
+    Restart {
+        kicker_touched_outside_center_circle: r.kicker_touched_outside_center_circle | outside,
+        kicker_touched_far_from_kick: r.kicker_touched_far_from_kick | far,
+        ..r
+    }
 }
 
 // After a touch by anybody else.
@@ -107,17 +72,10 @@ fn touched_again(r: Restart, field: FieldDimensions, ball: Ball, players: usize)
 fn touched_by_other(r: Restart) -> Restart
     ensures { result ≡ Spec.touched_by_other r }
 {
-    let kicker = r.kicker;
-    restart_with(
-        r,
-        kicker,
-        r.kick_x,
-        r.kick_y,
-        true,
-        r.kicker_touched_outside_center_circle,
-        r.kicker_touched_far_from_kick,
-        r.ball_moved_since_kick,
-    )
+    Restart {
+        other_touch: true,
+        ..r
+    }
 }
 
 // After a touch by the player with this number, of the side that takes the restart or not.
@@ -132,20 +90,10 @@ fn after_touch(
 ) -> Restart
     ensures { result ≡ Spec.after_touch r own number field ball players }
 {
-    let kicker = r.kicker;
-    match kicker {
-        None => {
-            if own {
-                return kick_taken(r, number, field, ball);
-            }
-            touched_by_other(r)
-        }
-        Some(k) => {
-            if own & (k == number) {
-                return touched_again(r, field, ball, players);
-            }
-            touched_by_other(r)
-        }
+    match r.kicker {
+        None if own => kick_taken(r, number, field, ball),
+        Some(k) if own & (k == number) => touched_again(r, field, ball, players),
+        _ => touched_by_other(r),
     }
 }
 
@@ -172,11 +120,9 @@ fn forbids_second_touch(set_play: SetPlay) -> bool
 fn is_double_touch(game: Game, set_play: SetPlay, players: usize) -> bool
     ensures { result ≡ Spec.is_double_touch game set_play players }
 {
-    let phase = game.phase;
-    let state = game.state;
     let forbidden = forbids_second_touch(set_play);
-    let shootout = game::is_shootout(phase);
-    let playing = game::is_playing(state);
+    let shootout = game::is_shootout(game.phase);
+    let playing = game::is_playing(game.state);
     forbidden & !shootout & playing & (players >= 3)
 }
 
@@ -185,23 +131,25 @@ fn is_double_touch(game: Game, set_play: SetPlay, players: usize) -> bool
 fn after_second_touch(game: Game, next: Restart, side: Side, players: usize) -> TouchedRestart
     ensures { result ≡ Spec.after_second_touch game next side players }
 {
-    let kind = next.kind;
-    let set_play = next.set_play;
-    let doubled = is_double_touch(game, set_play, players);
-    if kind == RestartKind::PenaltyShot {
-        let restart = Some(next);
+    let doubled = is_double_touch(game, next.set_play, players);
+    if next.kind == RestartKind::PenaltyShot {
         let call = Some(TouchCall::PenaltyShotEnded);
-        return TouchedRestart { restart, call };
+        return TouchedRestart {
+            restart: Some(next),
+            call,
+        };
     }
     if doubled {
-        let opponents = game::opponent(side);
-        let restart = None;
-        let call = Some(TouchCall::IndirectFreeKick(opponents));
-        return TouchedRestart { restart, call };
+        let call = Some(TouchCall::IndirectFreeKick(game::opponent(side)));
+        return TouchedRestart {
+            restart: None,
+            call,
+        };
     }
-    let restart = Some(next);
-    let call = None;
-    TouchedRestart { restart, call }
+    TouchedRestart {
+        restart: Some(next),
+        call: None,
+    }
 }
 
 // A new touch of the ball, as ball_contact: by the player of a side with a number, where the ball was in the last frame, and so many players of the side were on the field there.
@@ -217,20 +165,20 @@ pub fn touched(
 ) -> TouchedRestart
     ensures { result ≡ Spec.touched_restart game field ball side number players restart }
 {
-    let call = None;
     let Some(r) = restart else {
-        return TouchedRestart { restart, call };
+        return TouchedRestart {
+            restart,
+            call: None,
+        };
     };
-    let taker = r.side;
-    let own = side == taker;
+    let own = side == r.side;
     let next = after_touch(r, own, number, field, ball, players);
     if is_second_touch(r, own, number) {
         return after_second_touch(game, next, side, players);
     }
-    let kept = Some(next);
     TouchedRestart {
-        restart: kept,
-        call,
+        restart: Some(next),
+        call: None,
     }
 }
 
@@ -254,12 +202,11 @@ fn kind_of(set_play: SetPlay) -> RestartKind
 fn begun_for(kicking_side: Option<Side>, kind: RestartKind, set_play: SetPlay) -> Option<Restart>
     ensures { result ≡ Spec.begun_for kicking_side kind set_play }
 {
-    let kicker = None;
     kicking_side.map(|side| Restart {
         kind,
         set_play,
         side,
-        kicker,
+        kicker: None,
         kick_x: 0.0,
         kick_y: 0.0,
         other_touch: false,
@@ -288,10 +235,8 @@ fn after_begun(begun: bool, game: Game, restart: Option<Restart>) -> Option<Rest
     ensures { result ≡ Spec.after_begun begun game restart }
 {
     if begun {
-        let kicking_side = game.kicking_side;
         let set_play = game.set_play;
-        let kind = kind_of(set_play);
-        return begun_for(kicking_side, kind, set_play);
+        return begun_for(game.kicking_side, kind_of(set_play), set_play);
     }
     restart
 }
@@ -300,8 +245,7 @@ fn after_begun(begun: bool, game: Game, restart: Option<Restart>) -> Option<Rest
 fn after_ended(ended: bool, game: Game, restart: Option<Restart>) -> Option<Restart>
     ensures { result ≡ Spec.after_ended ended game restart }
 {
-    let state = game.state;
-    let playing = game::is_playing(state);
+    let playing = game::is_playing(game.state);
     let unkicked = is_unkicked(restart);
     if ended & playing & unkicked {
         return None;
@@ -320,16 +264,17 @@ pub fn observed(
 ) -> Option<Restart>
     ensures { result ≡ Spec.observed_restart game begun ended set_begun restart }
 {
-    let phase = game.phase;
-    let state = game.state;
-    let kicking_side = game.kicking_side;
-    let shootout = game::is_shootout(phase);
+    let shootout = game::is_shootout(game.phase);
     let first = after_begun(begun, game, restart);
     let second = after_ended(ended, game, first);
     if set_begun & shootout {
-        return begun_for(kicking_side, RestartKind::PenaltyShot, SetPlay::NoSetPlay);
+        return begun_for(
+            game.kicking_side,
+            RestartKind::PenaltyShot,
+            SetPlay::NoSetPlay,
+        );
     }
-    if has_restarts(state) {
+    if has_restarts(game.state) {
         return second;
     }
     None
@@ -340,24 +285,14 @@ pub fn observed(
 pub fn tracked(restart: Option<Restart>, ball: Ball) -> Option<Restart>
     ensures { result ≡ Spec.tracked_restart restart ball }
 {
-    let Some(r) = restart else {
-        return None;
-    };
-    let kicker = r.kicker;
-    if kicker.is_none() {
+    let r = restart?;
+    if r.kicker.is_none() {
         return restart;
     }
     let distance = kick_distance(r, ball);
     let moved = distance > BALL_CLEARLY_MOVED_DISTANCE;
-    let next = restart_with(
-        r,
-        kicker,
-        r.kick_x,
-        r.kick_y,
-        r.other_touch,
-        r.kicker_touched_outside_center_circle,
-        r.kicker_touched_far_from_kick,
-        r.ball_moved_since_kick | moved,
-    );
-    Some(next)
+    Some(Restart {
+        ball_moved_since_kick: r.ball_moved_since_kick | moved,
+        ..r
+    })
 }

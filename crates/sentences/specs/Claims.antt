@@ -33,6 +33,6 @@ pub record Longest : Type 0 where
 abbrev pub LongestClaim : Type 0
 LongestClaim = ((side : Side) (number : ℕ) (verdict : Positioning) (condition : Condition) → Told number verdict condition → length (line_of side number verdict condition) ≤ longest) × Longest
 
--- every line has a byte, so that the answer 0 tells that the lent bytes are too few
+-- every line has a byte, so that a length of 0 tells that there is no line
 abbrev pub NeverEmptyClaim : Type 0
 NeverEmptyClaim = (side : Side) (number : ℕ) (verdict : Positioning) (condition : Condition) → 1 ≤ length (line_of side number verdict condition)

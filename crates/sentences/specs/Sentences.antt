@@ -1,5 +1,5 @@
 -- The line by which the coach is told a verdict: the side, the number, the verdict and the condition that settled it, as "Home 4 illegal: own penalty area". Definitions only.
-use Rattle.std.specs.Prelude.{cond, List, [], ◌∷◌, ◌++◌, ℕ, ◌+◌, ◌/◌, ◌%◌, ltb, length}
+use Rattle.std.specs.Prelude.{cond, Option, None, Some, List, [], ◌∷◌, ◌++◌, ℕ, ◌+◌, ◌/◌, ◌%◌, ltb, length}
 use Rattle.game.specs.declared.Side.{Side}
 use Rattle.game.specs.declared.Side.TheVariants.{Home, Away}
 use Rattle.game.specs.declared.Positioning.{Positioning}
@@ -67,9 +67,9 @@ number_word n = cond (ltb (n % 100) 10) ((48 + n % 10) ∷ []) ((48 + n / 10 % 1
 unfoldable pub line_of : Side → ℕ → Positioning → Condition → List ℕ
 line_of side number verdict condition = side_word side ++ (32 ∷ (number_word number ++ (32 ∷ (verdict_words verdict ++ (58 ∷ 32 ∷ condition_words condition)))))
 
--- how many bytes of a text are written over lent bytes: all, or none where these are fewer
-unfoldable pub written : List ℕ → List ℕ → ℕ
-written text s = cond (ltb (length s) (length text)) 0 (length text)
+-- how many bytes of a text are written over lent bytes: all, or None where these are fewer
+unfoldable pub written : List ℕ → List ℕ → Option ℕ
+written text s = cond (ltb (length s) (length text)) None (Some (length text))
 
 -- the length of the longest line of a number from 1 to 20
 abbrev pub longest : ℕ

@@ -5,7 +5,6 @@ use Prim.Native.Nat.{ℕ, zero, suc, ◌+◌, ◌*◌, ◌≤◌, ◌<◌}
 use native.Mathlib.Nat.{le_antisymm, not-suc-le-zero, le_of_suc-le-suc}
 use native.Mathlib.Numerals.{add-one}
 use native.Mathlib.Omega.{arith}
-use borrow.Author.Tests.{lt-ltb, le-ltb}
 use lib.ListN.{length, length-append}
 use Rattle.lists.specs.Gather.{flat_to}
 use Rattle.lists.proofs.Gather.{flat_le, length_flat}
@@ -14,10 +13,9 @@ use Rattle.lines.specs.Line.{line_of, lines_of}
 use Rattle.lines.specs.Over.{over}
 use Rattle.lines.proofs.Over.{over_none, over_then, Stage, stage_none, stage_next}
 use Rattle.lines.proofs.Lines.{length_line, length_lines, lines_append}
-use Rattle.sheet.specs.Blocks.{block_row, block_rows, Few, block_at, rows_to, all_rows, place_line_rows}
+use Rattle.sheet.specs.Blocks.{block_row, block_rows, Few, block_at, rows_to, all_rows}
 use Rattle.sheet.specs.declared.blocks.Block.{Block}
-use Rattle.sheet.specs.declared.blocks.PlaceLines.{PlaceLines}
-use Rattle.sheet.specs.Rows.{row, place_rows}
+use Rattle.sheet.specs.Rows.{place_rows}
 use Rattle.game.specs.declared.Placement.{Placement}
 use Rattle.game.specs.declared.Placement.TheVariants.{NoPlace, BallAt, PlayerAt}
 use Rattle.sheet.proofs.BlockLaws.{block_count, table_lines}
@@ -95,15 +93,6 @@ unfolding all_rows
 rows_all bs i low high = ap (rows_to bs) (le_antisymm low high)
 
 -- ---- the lines of a place
-pub no_place_lines : (s : PlaceLines) → s.lines < 3 → place_line_rows s ≡ []
-unfolding place_line_rows
-no_place_lines s h = simp (lt-ltb s.lines 3 h)
-
-pub three_place_lines : (s : PlaceLines) → 3 ≤ s.lines
-    → place_line_rows s ≡ row 7 s.side s.number s.x ∷ row 8 s.side s.number s.y ∷ row 9 s.side s.number s.z ∷ []
-unfolding place_line_rows
-three_place_lines s h = simp (le-ltb s.lines 3 h)
-
 -- a place has three lines at most
 pub place_few : (p : Placement) → length (place_rows p) ≤ 3
 unfolding place_rows

@@ -1,5 +1,5 @@
 -- Lines of one kind and side in the making, and those of a place. Definitions only; no contract of an exported function needs them.
-use Rattle.std.specs.Prelude.{cond, List, [], ◌∷◌, ℕ, ◌≤◌, ◌<◌, ◌≡◌, ltb, get_or}
+use Rattle.std.specs.Prelude.{List, [], ◌∷◌, ℕ, ◌≤◌, ◌<◌, ◌≡◌, get_or, Option, None, Some}
 use Rattle.lists.specs.Gather.{flat_to}
 use Rattle.lists.specs.Table.{table}
 use Rattle.game.specs.declared.PlayerList.{PlayerList}
@@ -43,7 +43,6 @@ unfoldable pub all_rows : List Block → List Row
 all_rows bs = rows_to bs 10
 
 -- the lines of a place: three, or none
-unfoldable pub place_line_rows : PlaceLines → List Row
-place_line_rows s =
-    cond (ltb s.lines 3) []
-    (row 7 s.side s.number s.x ∷ row 8 s.side s.number s.y ∷ row 9 s.side s.number s.z ∷ [])
+unfoldable pub place_line_rows : Option PlaceLines → List Row
+place_line_rows None = []
+place_line_rows (Some s) = row 7 s.side s.number s.x ∷ row 8 s.side s.number s.y ∷ row 9 s.side s.number s.z ∷ []

@@ -1,7 +1,6 @@
 // Lines of one kind and side, and those of a place, gathered before anything is written, so that their number is known.
-ghost use Rattle.std.specs.Prelude.{◌≡◌, [], ◌∷◌, ◌++◌, ◌+◌, ◌≤◌, ◌<◌, length};
+ghost use Rattle.std.specs.Prelude.{◌≡◌, [], ◌∷◌, ◌++◌, Some};
 ghost use Rattle.lists.specs.Gather.{only_if};
-ghost use Rattle.lists.specs.Put.{count_if};
 ghost use Rattle.game.specs.Codes.{positioning_code, judgment_code, judgment_side};
 ghost use Rattle.sheet.specs.Rows as Spec;
 ghost use Rattle.sheet.specs.Blocks.{Holds, HoldsList, Few, all_rows, place_line_rows};
@@ -9,6 +8,7 @@ ghost use Rattle.sheet.specs.Blocks.{Holds, HoldsList, Few, all_rows, place_line
 use game::{BallJudgment, Decision, KickingPlayer, MIN, Placement, PlayerList, Positioning, Side};
 
 // The first `count` of the numbers and values, each a line of this kind and side.
+// There is no heap: a block has room for all players of a side. Two arrays, so that `list_block` takes a list's numbers as they are.
 #[derive(Clone, Copy)]
 pub struct Block {
     pub kind: u32,
@@ -18,10 +18,9 @@ pub struct Block {
     pub values: [u8; 20],
 }
 
-// The lines of a place, 3 or 0: the side and the number of each, and their values.
+// The three lines of a place: the side and the number of each, and their values.
 #[derive(Clone, Copy)]
 pub struct PlaceLines {
-    pub lines: usize,
     pub side: u32,
     pub number: u32,
     pub x: u32,
@@ -40,24 +39,15 @@ fn positioning_code(verdict: Positioning) -> u8
     verdict as u8
 }
 
-// One more, or not.
-fn count_if(wanted: bool, n: usize) -> usize
-    requires { n < 20 }
-    ensures { (result ≡ count_if wanted n) × (result ≤ n + 1) }
-{
-    if wanted { n + 1 } else { n }
-}
-
 // A block of at most one line.
 #[tactic(auto, unfolding(crate::specs::Blocks::block_rows))]
 fn block_if(wanted: bool, kind: u32, side: u32, number: u8) -> Block
     ensures { Holds result (only_if wanted (Spec.row kind side number 0)) }
 {
-    let count = if wanted { 1 } else { 0 };
     Block {
         kind,
         side,
-        count,
+        count: wanted as usize,
         numbers: [number; 20],
         values: [0; 20],
     }
@@ -76,7 +66,9 @@ fn verdict_block(side: Side, verdicts: [Positioning; 20]) -> Block
         let value = positioning_code(verdicts[i]);
         numbers[n] = i as u8 + MIN;
         values[n] = value;
-        n = count_if(0 < value, n);
+        if 0 < value {
+            n += 1;
+        }
     }
     Block {
         kind: 1,
@@ -94,11 +86,10 @@ fn list_block(kind: u32, side: Side, list: PlayerList, values: [u8; 20]) -> Bloc
 {
     let code = game::side_code(side);
     let numbers = list.numbers;
-    let count = if list.count < 20 { list.count } else { 20 };
     Block {
         kind,
         side: code,
-        count,
+        count: list.count.min(20),
         numbers,
         values,
     }
@@ -193,13 +184,12 @@ fn placed_value(x: f32) -> u32
 // The three lines of a place with this side and number.
 #[tactic(auto, unfolding(crate::specs::Blocks::place_line_rows))]
 fn three_lines(side: u32, number: u32, x: f32, y: f32, z: f32) -> PlaceLines
-    ensures { (result.lines ≡ 3) × (place_line_rows result ≡ Spec.value_rows 7 side number (x ∷ y ∷ z ∷ [])) }
+    ensures { place_line_rows (Some result) ≡ Spec.value_rows 7 side number (x ∷ y ∷ z ∷ []) }
 {
     let x = placed_value(x);
     let y = placed_value(y);
     let z = placed_value(z);
     PlaceLines {
-        lines: 3,
         side,
         number,
         x,
@@ -208,21 +198,14 @@ fn three_lines(side: u32, number: u32, x: f32, y: f32, z: f32) -> PlaceLines
     }
 }
 
-// The lines of a place.
+// The lines of a place, if there is one.
 #[tactic(auto, unfolding(crate::specs::Rows::place_rows, crate::specs::Blocks::place_line_rows))]
-pub(crate) fn lines_of_place(place: Placement) -> PlaceLines
-    ensures { (result.lines ≡ length (Spec.place_rows place)) × (place_line_rows result ≡ Spec.place_rows place) }
+pub(crate) fn lines_of_place(place: Placement) -> Option<PlaceLines>
+    ensures { place_line_rows result ≡ Spec.place_rows place }
 {
     match place {
-        Placement::NoPlace => PlaceLines {
-            lines: 0,
-            side: 2,
-            number: 0,
-            x: 0,
-            y: 0,
-            z: 0,
-        },
-        Placement::BallAt(x, y, z) => three_lines(2, 0, x, y, z),
+        Placement::NoPlace => None,
+        Placement::BallAt(x, y, z) => Some(three_lines(2, 0, x, y, z)),
         Placement::PlayerAt {
             side,
             number,
@@ -231,7 +214,7 @@ pub(crate) fn lines_of_place(place: Placement) -> PlaceLines
             theta,
         } => {
             let code = game::side_code(side);
-            three_lines(code, number as u32, x, y, theta)
+            Some(three_lines(code, number as u32, x, y, theta))
         }
     }
 }

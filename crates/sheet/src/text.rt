@@ -69,6 +69,17 @@ fn line_count(blocks: [Block; 10]) -> usize
     n
 }
 
+// How many lines a place has: three, or none.
+#[tactic(auto, unfolding(crate::specs::Blocks::place_line_rows))]
+fn place_count(placed: Option<PlaceLines>) -> usize
+    ensures { result ≡ length (place_line_rows placed) }
+{
+    match placed {
+        None => 0,
+        Some(_) => 3,
+    }
+}
+
 // How many lines follow the header of a decision's sheet.
 pub fn lines_following(d: Decision) -> usize
     ensures { result ≡ length (rows_of d) }
@@ -76,18 +87,18 @@ pub fn lines_following(d: Decision) -> usize
     let blocks = super::blocks::blocks_of(d);
     let place = d.place;
     let placed = super::blocks::lines_of_place(place);
-    line_count(blocks) + placed.lines
+    line_count(blocks) + place_count(placed)
 }
 
 // Writes the lines of a place, where there is one.
 #[tactic(auto, unfolding(lines::specs::Line::lines_of))]
-fn place_lines(sheet: &mut [u8], at: usize, placed: PlaceLines)
+fn place_lines(sheet: &mut [u8], at: usize, placed: Option<PlaceLines>)
     requires { at + 45 * length (place_line_rows placed) ≤ length sheet.old }
     ensures { sheet.new ≡ over at (lines_of (place_line_rows placed)) sheet.old }
 {
-    if placed.lines < 3 {
+    let Some(placed) = placed else {
         return;
-    }
+    };
     let x = Row {
         kind: 7,
         side: placed.side,
@@ -120,7 +131,7 @@ pub fn write_decision(d: Decision, sheet: &mut [u8]) -> Result<usize, Refusal>
     let blocks = super::blocks::blocks_of(d);
     let place = d.place;
     let placed = super::blocks::lines_of_place(place);
-    let n = line_count(blocks) + placed.lines;
+    let n = line_count(blocks) + place_count(placed);
     let bytes = 45 * n + 45;
     if sheet.len() < bytes {
         return Err(Refusal::SheetRoom);

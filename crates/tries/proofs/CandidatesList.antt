@@ -14,6 +14,7 @@ use Rattle.floats.specs.Arithmetic.{zero32, sixty_four, sixty_fourth}
 use Rattle.spacing.specs.Spacing.{Step, places_at}
 use Rattle.floats.proofs.Laws.Order.{le_total_f, neg_number, number}
 use Rattle.floats.proofs.Laws.Within.{clamp_within}
+use Rattle.tries.specs.declared.Span.{Span}
 use Rattle.tries.specs.Tries.{crossed, middle, candidates_to, candidates_of, too_far, too_fine, unfit, first_candidate, walks, has_place, turns_from, turns_of, walked, tries_of, tried_at}
 use Rattle.lists.proofs.Bools.{neither, both_true, right_false}
 use Rattle.lists.proofs.Counting.{count_le}
@@ -62,9 +63,9 @@ pub record Held (start min max step : Float) : Type 0 where
   pub fits_max : T (fits binary32 max)
   pub fits_step : T (fits binary32 step)
 
--- as a function is told of its parameters
-pub held : (start min max step : Float) {A B C D E : Type 0} → (A × (fits binary32 start ≡ true)) × ((B × (fits binary32 min ≡ true)) × ((C × (fits binary32 max ≡ true)) × ((D × (fits binary32 step ≡ true)) × E))) → Held start min max step
-held start min max step g = record {
+-- as a function is told of a span
+pub held : (s : Span) {A B C D E : Type 0} → (A × (fits binary32 s.start ≡ true)) × ((B × (fits binary32 s.min ≡ true)) × ((C × (fits binary32 s.max ≡ true)) × ((D × (fits binary32 s.step ≡ true)) × E))) → Held s.start s.min s.max s.step
+held s g = record {
   fits_start = subst T (sym g.0.1) tt;
   fits_min = subst T (sym g.1.0.1) tt;
   fits_max = subst T (sym g.1.1.0.1) tt;

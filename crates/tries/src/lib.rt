@@ -9,6 +9,15 @@ ghost use Rattle.tries.specs.Tries as Spec;
 
 use floats::{clamp, from_count, is_nan};
 
+// Where candidates are looked for: from the start, between the bounds, by a step.
+#[derive(Clone, Copy)]
+pub struct Span {
+    pub start: f32,
+    pub min: f32,
+    pub max: f32,
+    pub step: f32,
+}
+
 // How far the candidates after the first go: the turns, one for each step out, and how many candidates these give.
 #[derive(Clone, Copy)]
 pub struct Walk {
@@ -17,10 +26,13 @@ pub struct Walk {
 }
 
 // The walk from a first candidate, up to the first k at which both places are out of bounds: all later ones are too.
-fn walk_from(first: f32, min: f32, max: f32, step: f32) -> Walk
-    requires { Within first × Within min × Within max × Step step }
-    ensures { (result.turns ≡ Spec.turns_from first min max step) × (result.count ≡ length (flat_to 8192 (places_at first min max step))) }
+fn walk_from(first: f32, span: Span) -> Walk
+    requires { Within first × Within span.min × Within span.max × Step span.step }
+    ensures { (result.turns ≡ Spec.turns_from first span.min span.max span.step) × (result.count ≡ length (flat_to 8192 (places_at first span.min span.max span.step))) }
 {
+    let min = span.min;
+    let max = span.max;
+    let step = span.step;
     let mut n: u16 = 0;
     for k in 0..8192 {
         let out = from_count(k + 1) * step;
@@ -53,48 +65,53 @@ fn too_far(v: f32) -> bool
     (v < -64.0) | (v > 64.0)
 }
 
-// Refusal 5: bounds that are not crossed, with floats for which the candidates would not end or would be too many.
-pub fn unfit(start: f32, min: f32, max: f32, step: f32) -> bool
-    ensures { result ≡ Spec.unfit start min max step }
-{
-    let bad_bounds = crossed(min, max);
-    let no_start = is_nan(start);
-    let far_min = too_far(min);
-    let far_max = too_far(max);
-    let no_step = is_nan(step);
-    let too_fine = (step > 0.0) & (step < 0.015625);
-    !bad_bounds & (no_start | far_min | far_max | no_step | too_fine)
-}
-
-// The first candidate: the start, moved into the bounds.
-pub fn candidate_first(start: f32, min: f32, max: f32) -> f32
-    ensures { result ≡ Spec.first_candidate start min max }
-{
-    if crossed(min, max) {
-        return (min + max) * 0.5;
+impl Span {
+    // Refusal 5: bounds that are not crossed, with floats for which the candidates would not end or would be too many.
+    pub fn unfit(self) -> bool
+        ensures { result ≡ Spec.unfit self.start self.min self.max self.step }
+    {
+        let step = self.step;
+        let bad_bounds = crossed(self.min, self.max);
+        let no_start = is_nan(self.start);
+        let far_min = too_far(self.min);
+        let far_max = too_far(self.max);
+        let no_step = is_nan(step);
+        let too_fine = (step > 0.0) & (step < 0.015625);
+        !bad_bounds & (no_start | far_min | far_max | no_step | too_fine)
     }
-    clamp(start, min, max)
-}
 
-// The walk after the first candidate; none where there is only one, and where the floats are unfit.
-pub fn walk_of(start: f32, min: f32, max: f32, step: f32) -> Walk
-    ensures { (result.turns ≡ Spec.turns_of start min max step) × (result.count ≡ length (Spec.walked start min max step)) }
-{
-    let bad_bounds = crossed(min, max);
-    let refused = unfit(start, min, max, step);
-    if !bad_bounds & !refused & !(step <= 0.0) {
-        let first = candidate_first(start, min, max);
-        return walk_from(first, min, max, step);
+    // The first candidate: the start, moved into the bounds.
+    pub fn candidate_first(self) -> f32
+        ensures { result ≡ Spec.first_candidate self.start self.min self.max }
+    {
+        let min = self.min;
+        let max = self.max;
+        if crossed(min, max) {
+            return (min + max) * 0.5;
+        }
+        clamp(self.start, min, max)
     }
-    Walk { turns: 0, count: 0 }
-}
 
-// How many tries the candidates after the first take.
-pub fn candidate_tries(start: f32, min: f32, max: f32, step: f32) -> u16
-    ensures { result ≡ Spec.tries_of start min max step }
-{
-    let w = walk_of(start, min, max, step);
-    2 * w.turns
+    // The walk after the first candidate; none where there is only one, and where the floats are unfit.
+    pub fn walk(self) -> Walk
+        ensures { (result.turns ≡ Spec.turns_of self.start self.min self.max self.step) × (result.count ≡ length (Spec.walked self.start self.min self.max self.step)) }
+    {
+        let bad_bounds = crossed(self.min, self.max);
+        let refused = self.unfit();
+        if !bad_bounds & !refused & !(self.step <= 0.0) {
+            let first = self.candidate_first();
+            return walk_from(first, self);
+        }
+        Walk { turns: 0, count: 0 }
+    }
+
+    // How many tries the candidates after the first take.
+    pub fn candidate_tries(self) -> u16
+        ensures { result ≡ Spec.tries_of self.start self.min self.max self.step }
+    {
+        let w = self.walk();
+        2 * w.turns
+    }
 }
 
 // The place of the try j: the lower ones have an even j.

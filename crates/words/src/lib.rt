@@ -11,21 +11,64 @@ use game::{
     Side, SideMapping, Situation, State, Team, Wish,
 };
 
-// The value at a place of a list, and past its end the other one.
-fn value_at<T: Copy>(all: &[T], i: usize, other: T) -> T
-    ensures { result ≡ slice_index_or all.now i other }
-{
-    match all.get(i) {
-        Some(value) => *value,
-        None => other,
-    }
-}
+// The values of a column's words, from 0 on. No TryFrom of the enums: a word that is none of them gives the first, so that each caller would drop an error.
+const PHASES: [Phase; 5] = [
+    Phase::FirstHalf,
+    Phase::SecondHalf,
+    Phase::FirstExtraHalf,
+    Phase::SecondExtraHalf,
+    Phase::PenaltyShootout,
+];
+
+const STATES: [State; 6] = [
+    State::Initial,
+    State::Ready,
+    State::Set,
+    State::Playing,
+    State::Finished,
+    State::Timeout,
+];
+
+const SET_PLAYS: [SetPlay; 8] = [
+    SetPlay::NoSetPlay,
+    SetPlay::KickOff,
+    SetPlay::DirectFreeKick,
+    SetPlay::IndirectFreeKick,
+    SetPlay::PenaltyKick,
+    SetPlay::ThrowIn,
+    SetPlay::GoalKick,
+    SetPlay::CornerKick,
+];
+
+const PENALTIES: [Penalty; 14] = [
+    Penalty::NoPenalty,
+    Penalty::IllegalPositioning,
+    Penalty::MotionInSet,
+    Penalty::MotionInStop,
+    Penalty::LocalGameStuck,
+    Penalty::IncapableRobot,
+    Penalty::PickedUp,
+    Penalty::BallHolding,
+    Penalty::LeavingTheField,
+    Penalty::PlayingWithArmsHands,
+    Penalty::Pushing,
+    Penalty::Cautioned,
+    Penalty::SentOff,
+    Penalty::Substitute,
+];
+
+const RESTART_KINDS: [RestartKind; 4] = [
+    RestartKind::KickOff,
+    RestartKind::Indirect,
+    RestartKind::Direct,
+    RestartKind::PenaltyShot,
+];
 
 #[tactic(auto, unfolding(crate::specs::Words::word_at))]
 fn word_at(words: &[u32], i: usize) -> u32
     ensures { result ≡ Spec.word_at words.now i }
 {
-    value_at(words, i, 0)
+    words.get(i).copied().unwrap_or(0)
 }
 
 #[tactic(auto, unfolding(crate::specs::Words::float_at))]
@@ -42,14 +85,20 @@ fn flag_at(words: &[u32], i: usize) -> bool
     word_at(words, i) == 1
 }
 
+// The value of the word at a place, by its column's values, of which one past the end gives the first.
+fn value_of<T: Copy>(words: &[u32], i: usize, all: &[T], first: T) -> T
+    ensures { result ≡ slice_index_or all.now (Spec.word_at words.now i) first }
+{
+    all.get(word_at(words, i) as usize)
+        .copied()
+        .unwrap_or(first)
+}
+
 #[tactic(auto, unfolding(crate::specs::Words::side_of))]
 pub fn side_of(word: u32) -> Side
     ensures { result ≡ Spec.side_of word }
 {
-    if word == 1 {
-        return Side::Away;
-    }
-    Side::Home
+    if word == 1 { Side::Away } else { Side::Home }
 }
 
 #[tactic(auto, unfolding(crate::specs::Words::sides_of))]
@@ -57,122 +106,31 @@ fn sides_of(word: u32) -> SideMapping
     ensures { result ≡ Spec.sides_of word }
 {
     if word == 1 {
-        return SideMapping::HomeDefendsRightGoal;
+        SideMapping::HomeDefendsRightGoal
+    } else {
+        SideMapping::HomeDefendsLeftGoal
     }
-    SideMapping::HomeDefendsLeftGoal
-}
-
-#[tactic(auto, unfolding(crate::specs::Words::phase_of))]
-fn phase_of(word: u32) -> Phase
-    ensures { result ≡ Spec.phase_of word }
-{
-    let all = [
-        Phase::FirstHalf,
-        Phase::SecondHalf,
-        Phase::FirstExtraHalf,
-        Phase::SecondExtraHalf,
-        Phase::PenaltyShootout,
-    ];
-    value_at(&all, word as usize, Phase::FirstHalf)
-}
-
-#[tactic(auto, unfolding(crate::specs::Words::state_of))]
-fn state_of(word: u32) -> State
-    ensures { result ≡ Spec.state_of word }
-{
-    let all = [
-        State::Initial,
-        State::Ready,
-        State::Set,
-        State::Playing,
-        State::Finished,
-        State::Timeout,
-    ];
-    value_at(&all, word as usize, State::Initial)
-}
-
-#[tactic(auto, unfolding(crate::specs::Words::set_play_of))]
-fn set_play_of(word: u32) -> SetPlay
-    ensures { result ≡ Spec.set_play_of word }
-{
-    let all = [
-        SetPlay::NoSetPlay,
-        SetPlay::KickOff,
-        SetPlay::DirectFreeKick,
-        SetPlay::IndirectFreeKick,
-        SetPlay::PenaltyKick,
-        SetPlay::ThrowIn,
-        SetPlay::GoalKick,
-        SetPlay::CornerKick,
-    ];
-    value_at(&all, word as usize, SetPlay::NoSetPlay)
-}
-
-#[tactic(auto, unfolding(crate::specs::Words::penalty_of))]
-fn penalty_of(word: u32) -> Penalty
-    ensures { result ≡ Spec.penalty_of word }
-{
-    let all = [
-        Penalty::NoPenalty,
-        Penalty::IllegalPositioning,
-        Penalty::MotionInSet,
-        Penalty::MotionInStop,
-        Penalty::LocalGameStuck,
-        Penalty::IncapableRobot,
-        Penalty::PickedUp,
-        Penalty::BallHolding,
-        Penalty::LeavingTheField,
-        Penalty::PlayingWithArmsHands,
-        Penalty::Pushing,
-        Penalty::Cautioned,
-        Penalty::SentOff,
-        Penalty::Substitute,
-    ];
-    value_at(&all, word as usize, Penalty::NoPenalty)
-}
-
-#[tactic(auto, unfolding(crate::specs::Words::restart_kind_of))]
-fn restart_kind_of(word: u32) -> RestartKind
-    ensures { result ≡ Spec.restart_kind_of word }
-{
-    let all = [
-        RestartKind::KickOff,
-        RestartKind::Indirect,
-        RestartKind::Direct,
-        RestartKind::PenaltyShot,
-    ];
-    value_at(&all, word as usize, RestartKind::KickOff)
 }
 
 #[tactic(auto, unfolding(crate::specs::Words::maybe_side_of))]
 fn maybe_side_of(word: u32) -> Option<Side>
     ensures { result ≡ Spec.maybe_side_of word }
 {
-    if word < 2 {
-        let side = side_of(word);
-        return Some(side);
-    }
-    None
+    (word < 2).then(|| side_of(word))
 }
 
 #[tactic(auto, unfolding(crate::specs::Words::maybe_number_of))]
 fn maybe_number_of(word: u32) -> Option<u8>
     ensures { result ≡ Spec.maybe_number_of word }
 {
-    if word < 256 {
-        return Some(word as u8);
-    }
-    None
+    u8::try_from(word).ok()
 }
 
 #[tactic(auto, unfolding(crate::specs::Words::number_of))]
 fn number_of(word: u32) -> u8
     ensures { result ≡ Spec.number_of word }
 {
-    if word < 256 {
-        return word as u8;
-    }
-    0
+    u8::try_from(word).unwrap_or(0)
 }
 
 #[tactic(auto, unfolding(crate::specs::Words::field_of))]
@@ -197,15 +155,15 @@ fn field_of(words: &[u32]) -> FieldDimensions
     }
 }
 
-#[tactic(auto, unfolding(crate::specs::Words::game_of))]
+#[tactic(auto, unfolding(crate::specs::Words::game_of, crate::specs::Words::phase_of, crate::specs::Words::state_of, crate::specs::Words::set_play_of))]
 fn game_of(words: &[u32]) -> Game
     ensures { result ≡ Spec.game_of words.now }
 {
     let sides = sides_of(word_at(words, layout::SIDES));
     let stopped = flag_at(words, layout::STOPPED);
-    let phase = phase_of(word_at(words, layout::PHASE));
-    let state = state_of(word_at(words, layout::STATE));
-    let set_play = set_play_of(word_at(words, layout::SET_PLAY));
+    let phase = value_of(words, layout::PHASE, &PHASES, Phase::FirstHalf);
+    let state = value_of(words, layout::STATE, &STATES, State::Initial);
+    let set_play = value_of(words, layout::SET_PLAY, &SET_PLAYS, SetPlay::NoSetPlay);
     let kicking_side = maybe_side_of(word_at(words, layout::KICKING_SIDE));
     Game {
         sides,
@@ -237,21 +195,18 @@ fn pose_if_at(words: &[u32], i: usize) -> Option<PlayerPose>
     requires { i < word_count }
     ensures { result ≡ Spec.pose_if_at words.now i }
 {
-    if flag_at(words, i) {
-        return Some(pose_at(words, i + 1));
-    }
-    None
+    flag_at(words, i).then(|| pose_at(words, i + 1))
 }
 
 // The player k of the 40.
-#[tactic(auto, unfolding(crate::specs::Words::player_of))]
+#[tactic(auto, unfolding(crate::specs::Words::player_of, crate::specs::Words::penalty_of))]
 fn player_of(words: &[u32], k: usize) -> Player
     requires { k < 40 }
     ensures { result ≡ Spec.player_of words.now k }
 {
     let pose = pose_if_at(words, layout::POSES + layout::POSE_WORDS * k);
     let reference = pose_if_at(words, layout::REFERENCES + layout::POSE_WORDS * k);
-    let penalty = penalty_of(word_at(words, layout::PENALTIES + k));
+    let penalty = value_of(words, layout::PENALTIES + k, &PENALTIES, Penalty::NoPenalty);
     let allowance = float_at(words, layout::ALLOWANCES + k);
     let previously_inside = flag_at(words, layout::PREVIOUSLY_INSIDE + k);
     Player {
@@ -281,13 +236,23 @@ fn team_in(words: &[u32], side: usize) -> Team
     }
 }
 
-#[tactic(auto, unfolding(crate::specs::Words::restart_of, crate::specs::Words::maybe_restart_of))]
+#[tactic(auto, unfolding(crate::specs::Words::restart_of, crate::specs::Words::maybe_restart_of, crate::specs::Words::restart_kind_of, crate::specs::Words::set_play_of))]
 fn maybe_restart_of(words: &[u32]) -> Option<Restart>
     ensures { result ≡ Spec.maybe_restart_of words.now }
 {
     if flag_at(words, layout::RESTART) {
-        let kind = restart_kind_of(word_at(words, layout::RESTART_KIND));
-        let set_play = set_play_of(word_at(words, layout::RESTART_SET_PLAY));
+        let kind = value_of(
+            words,
+            layout::RESTART_KIND,
+            &RESTART_KINDS,
+            RestartKind::KickOff,
+        );
+        let set_play = value_of(
+            words,
+            layout::RESTART_SET_PLAY,
+            &SET_PLAYS,
+            SetPlay::NoSetPlay,
+        );
         let side = side_of(word_at(words, layout::RESTART_SIDE));
         let kicker = maybe_number_of(word_at(words, layout::RESTART_KICKER));
         let restart = Restart {
@@ -325,7 +290,7 @@ fn wish_of(words: &[u32]) -> Wish
         Wish::ForPenaltyShot(side, number),
         Wish::Goalkeeper(side),
     ];
-    value_at(&all, word_at(words, layout::WISH) as usize, Wish::Nothing)
+    value_of(words, layout::WISH, &all, Wish::Nothing)
 }
 
 // The situation that the words are.

@@ -14,6 +14,6 @@ loop-k-preserved c = fold_turn _ _ _ _ _ c.loop-k.invariant c.nearer-acc.ensures
 pub returns : goal.returns
 returns c =
     let a = c.args in
-    let n = min (length a.xs.now) (length a.ys.now) in
+    let n = min (length a.earlier.xs.now) (length a.earlier.ys.now) in
     fold_done _ _ _ _ n (omega (arith, c.min-n.ensures)) (omega (arith, c.min-n.ensures)) c.loop-k.invariant
-    ∙ least_table (distance_from a.x a.y) (λ k. record { x = get_or a.xs.now k nan; y = get_or a.ys.now k nan }) a.least n
+    ∙ least_table (distance_from a.x a.y) (λ k. record { x = get_or a.earlier.xs.now k nan; y = get_or a.earlier.ys.now k nan }) a.least n

@@ -5,16 +5,16 @@ use Rattle.coach.proofs.ended_sentence.Goals as goal
 
 pub returns-then-size-eq0-clause-value : goal.returns-then-size-eq0-clause-value
 returns-then-size-eq0-clause-value c =
-    (ended_empty c.args.side c.args.number c.args.condition c.args.lines.now c.args.at c.requires c.sentence-answer.result _ c.sentence-answer.ensures.value c.sentence-answer.ensures.text_after c.bytes_in-size.result c.bytes_in-size.ensures c.if-size-eq0.true).0
+    (ended_empty c.args.side c.args.number c.args.condition c.args.lines.now c.args.at c.requires c.sentence.result _ c.sentence.ensures.value c.sentence.ensures.text_after c.unwrap_or-size.result c.unwrap_or-size.ensures c.if-size-eq0.true).0
 
 pub returns-then-size-eq0-clause-lines_after : goal.returns-then-size-eq0-clause-lines_after
 returns-then-size-eq0-clause-lines_after c =
-    (ended_empty c.args.side c.args.number c.args.condition c.args.lines.now c.args.at c.requires c.sentence-answer.result _ c.sentence-answer.ensures.value c.sentence-answer.ensures.text_after c.bytes_in-size.result c.bytes_in-size.ensures c.if-size-eq0.true).1
+    (ended_empty c.args.side c.args.number c.args.condition c.args.lines.now c.args.at c.requires c.sentence.result _ c.sentence.ensures.value c.sentence.ensures.text_after c.unwrap_or-size.result c.unwrap_or-size.ensures c.if-size-eq0.true).1
 
 pub bounds-lines-end : goal.bounds-lines-end
 bounds-lines-end c =
-    part_room c.args.side c.args.number c.args.condition c.args.lines.now c.args.at c.requires c.sentence-answer.result _ c.sentence-answer.ensures.value c.sentence-answer.ensures.text_after c.bytes_in-size.result c.bytes_in-size.ensures
+    part_room c.args.side c.args.number c.args.condition c.args.lines.now c.args.at c.requires c.sentence.result _ c.sentence.ensures.value c.sentence.ensures.text_after c.unwrap_or-size.result c.unwrap_or-size.ensures
 
 pub returns-clause-lines_after : goal.returns-clause-lines_after
 returns-clause-lines_after c =
-    (ended_line c.args.side c.args.number c.args.condition c.args.lines.now c.args.at c.requires c.sentence-answer.result _ c.sentence-answer.ensures.value c.sentence-answer.ensures.text_after c.bytes_in-size.result c.bytes_in-size.ensures c.if-size-eq0.false _ refl).1
+    (ended_line c.args.side c.args.number c.args.condition c.args.lines.now c.args.at c.requires c.sentence.result _ c.sentence.ensures.value c.sentence.ensures.text_after c.unwrap_or-size.result c.unwrap_or-size.ensures c.if-size-eq0.false _ refl).1

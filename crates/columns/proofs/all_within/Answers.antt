@@ -1,5 +1,5 @@
 use Rattle.std.proofs.Common.{refl}
-use Rattle.lists.proofs.Every.{every_none, every_turn, every_done}
+use Rattle.lists.proofs.Every.{every_none, every_turn}
 use Rattle.columns.proofs.all_within.Goals as goal
 
 pub loop-i-init : goal.loop-i-init
@@ -7,6 +7,3 @@ loop-i-init c = every_none _
 
 pub loop-i-preserved : goal.loop-i-preserved
 loop-i-preserved c = every_turn _ _ _ _ c.loop-i.invariant refl
-
-pub returns : goal.returns
-returns c = every_done _ _ _ _ c.loop-i.auto.i-end c.loop-i-test.false c.loop-i.invariant

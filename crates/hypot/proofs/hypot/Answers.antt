@@ -26,13 +26,13 @@ float_from_bits-result c =
     let left = shape c.args.x (subst T (sym c.well_formed.0.1) tt) in
     let right = shape c.args.y (subst T (sym c.well_formed.1.0.1) tt) in
     number_bits binary32 _
-    (most _ _ _ c.larger.ensures (number_pattern _ _ left (equals_itself _ c.if-x.true)) (number_pattern _ _ right (equals_itself _ c.if-y.true)))
+    (most _ _ _ c.max.ensures (number_pattern _ _ left (equals_itself _ c.if-x.true)) (number_pattern _ _ right (equals_itself _ c.if-y.true)))
 
 pub returns-then-far_apart : goal.returns-then-far_apart
 returns-then-far_apart c =
     let left = shape c.args.x (subst T (sym c.well_formed.0.1) tt) in
     let right = shape c.args.y (subst T (sym c.well_formed.1.0.1) tt) in
-    far_apart _ _ _ _ _ left right (number_pattern _ _ left (equals_itself _ c.if-x.true)) (number_pattern _ _ right (equals_itself _ c.if-y.true)) c.larger.ensures
+    far_apart _ _ _ _ _ left right (number_pattern _ _ left (equals_itself _ c.if-x.true)) (number_pattern _ _ right (equals_itself _ c.if-y.true)) c.max.ensures
     (leb→le _ _ (holds _ (sym c.far_apart.ensures ∙ c.if-far_apart.true)))
 
 pub float_from_bits-result-then-p-q-le16777216 : goal.float_from_bits-result-then-p-q-le16777216

@@ -1,13 +1,14 @@
 -- The tests come in the order of the definition, and each count is the number in the slice.
-use Rattle.std.specs.Prelude.{Result}
-use Rattle.std.proofs.Common.{◌≡◌, ℕ, ◌<◌, ◌≤◌, min, List, take, get_or, refl, ap, ◌∙◌, arith}
+use Rattle.std.specs.Prelude.{Result, Ok, Err}
+use Rattle.std.proofs.Common.{◌≡◌, ℕ, ◌<◌, ◌≤◌, min, List, take, ap, ◌∙◌, arith}
+use Rattle.std.proofs.lemmas.Result.{err_from_is_err_and}
 use Rattle.columns.specs.Layout.{word_count}
 use Rattle.columns.specs.Columns.{words_within}
 use Rattle.input.specs.declared.Lists.{Lists}
 use Rattle.input.specs.declared.Wrong.{Wrong}
 use Rattle.input.specs.declared.Fault.TheVariants.{Outside}
-use Rattle.input.specs.Input.{wrong_at, most_places, count_x, count_y, after_counts, after_x, after_words, with_words}
-use Rattle.input.proofs.Tests.{outside, all_inside, x_missing, x_long, x_counted, y_missing, y_long, y_counted, too_few, too_many, just_so_many}
+use Rattle.input.specs.Input.{wrong_at, count_x, count_y, after_counts, after_x, after_words, with_list, with_words}
+use Rattle.input.proofs.Tests.{outside, all_inside, list_wrong, list_known, too_few, too_many, just_so_many}
 use Rattle.input.proofs.laid_out.Goals as goal
 
 -- the answer for the numbers
@@ -22,52 +23,50 @@ module _ (ns : List ℕ) (n there w : ℕ) (t : there ≡ min n word_count) (e :
   first_outside : w < there → wrong_at w Outside ≡ Whole ns n
   first_outside h = outside ns n w (omega arith) ∙ ap (with_words ns n) counted
 
-  -- the words are all within: what is left is asked of the number after them
-  inside : there ≤ w → after_words ns n ≡ Whole ns n
-  inside h = all_inside ns n w (omega arith) ∙ ap (with_words ns n) counted
+  module _ (in_all : there ≤ w) where
+    -- the words are all within: what is left is asked of the number after them
+    inside : after_words ns n ≡ Whole ns n
+    inside = all_inside ns n w (omega arith) ∙ ap (with_words ns n) counted
 
-  module _ (in_all : there ≤ w) (past : count_x < n) (nx : ℕ) (x : nx ≡ get_or ns count_x 0) (few : nx ≤ most_places) where
-    -- the earlier x are counted
-    x_read : after_x ns n nx ≡ Whole ns n
-    x_read = x_counted ns n nx x past few ∙ inside in_all
+    x_wrong : (v : Wrong) → Err v ≡ with_list ns n count_x Ok → Err v ≡ Whole ns n
+    x_wrong v h = let step : Err v ≡ after_words ns n = unfold after_words in list_wrong ns n count_x (after_x ns n) v h in step ∙ inside
 
-    -- the earlier y are counted
-    y_read : count_y nx < n → (ny : ℕ) → ny ≡ get_or ns (count_y nx) 0 → ny ≤ most_places → after_counts n nx ny ≡ Whole ns n
-    y_read past_y ny y few_y = y_counted ns n nx ny y past_y few_y ∙ x_read
+    module _ (xs : ℕ) (x : Ok xs ≡ with_list ns n count_x Ok) where
+      -- the earlier x are counted
+      x_read : after_x ns n xs ≡ Whole ns n
+      x_read = let step : after_x ns n xs ≡ after_words ns n = unfold after_words in list_known ns n count_x (after_x ns n) xs x in step ∙ inside
+
+      y_wrong : (v : Wrong) → Err v ≡ with_list ns n (count_y xs) Ok → Err v ≡ Whole ns n
+      y_wrong v h = let step : Err v ≡ after_x ns n xs = unfold after_x in list_wrong ns n (count_y xs) (after_counts n xs) v h in step ∙ x_read
+
+      -- the earlier y are counted
+      y_read : (ys : ℕ) → Ok ys ≡ with_list ns n (count_y xs) Ok → after_counts n xs ys ≡ Whole ns n
+      y_read ys y = let step : after_counts n xs ys ≡ after_x ns n xs = unfold after_x in list_known ns n (count_y xs) (after_counts n xs) ys y in step ∙ x_read
 
 pub returns : goal.returns
 returns c =
     just_so_many _ _ _ c.if-n-all.false c.if-all-n.false
-    ∙ y_read _ _ _ _ c.min-there.ensures c.words_within-w.ensures c.if-w-there.false c.if-n-le-WORDS.false _ refl c.if-long_x.false
-    c.if-n-at.false _ refl c.if-long_y.false
+    ∙ y_read _ _ _ _ c.min-there.ensures c.words_within-w.ensures c.if-w-there.false _ c.in_ok-xs.ensures.value _ c.in_ok-ys.ensures.value
 
 pub returns-then-w-there : goal.returns-then-w-there
-returns-then-w-there c = first_outside _ _ _ _ c.min-there.ensures c.words_within-w.ensures c.if-w-there.true
+returns-then-w-there c = ap Err c.wrong_at.ensures ∙ first_outside _ _ _ _ c.min-there.ensures c.words_within-w.ensures c.if-w-there.true
 
-pub returns-then-n-le-WORDS : goal.returns-then-n-le-WORDS
-returns-then-n-le-WORDS c = x_missing _ _ c.if-n-le-WORDS.true ∙ inside _ _ _ _ c.min-there.ensures c.words_within-w.ensures c.if-w-there.false
+pub returns-in_err-xs : goal.returns-in_err-xs
+returns-in_err-xs c =
+    let p = err_from_is_err_and c.from_residual.result c.from_residual.ensures.1 in
+    rw (p.1, p.2) (x_wrong _ _ _ _ c.min-there.ensures c.words_within-w.ensures c.if-w-there.false _ c.in_err-xs.ensures.value)
 
-pub returns-then-long_x : goal.returns-then-long_x
-returns-then-long_x c =
-    x_long _ _ _ refl c.if-n-le-WORDS.false c.if-long_x.true ∙ inside _ _ _ _ c.min-there.ensures c.words_within-w.ensures c.if-w-there.false
-
-pub returns-then-n-at : goal.returns-then-n-at
-returns-then-n-at c =
-    y_missing _ _ _ c.if-n-at.true ∙ x_read _ _ _ _ c.min-there.ensures c.words_within-w.ensures c.if-w-there.false c.if-n-le-WORDS.false _ refl c.if-long_x.false
-
-pub returns-then-long_y : goal.returns-then-long_y
-returns-then-long_y c =
-    y_long _ _ _ _ refl c.if-n-at.false (omega (arith, c.if-long_y.true))
-    ∙ x_read _ _ _ _ c.min-there.ensures c.words_within-w.ensures c.if-w-there.false c.if-n-le-WORDS.false _ refl c.if-long_x.false
+pub returns-in_err-ys : goal.returns-in_err-ys
+returns-in_err-ys c =
+    let p = err_from_is_err_and c.from_residual-in_err-ys.result c.from_residual-in_err-ys.ensures.1 in
+    rw (p.1, p.2) (y_wrong _ _ _ _ c.min-there.ensures c.words_within-w.ensures c.if-w-there.false _ c.in_ok-xs.ensures.value _ c.in_err-ys.ensures.value)
 
 pub returns-then-n-all : goal.returns-then-n-all
 returns-then-n-all c =
-    too_few _ _ _ c.if-n-all.true
-    ∙ y_read _ _ _ _ c.min-there.ensures c.words_within-w.ensures c.if-w-there.false c.if-n-le-WORDS.false _ refl c.if-long_x.false
-    c.if-n-at.false _ refl c.if-long_y.false
+    ap Err c.wrong_at-then-n-all.ensures ∙ too_few _ _ _ c.if-n-all.true
+    ∙ y_read _ _ _ _ c.min-there.ensures c.words_within-w.ensures c.if-w-there.false _ c.in_ok-xs.ensures.value _ c.in_ok-ys.ensures.value
 
 pub returns-then-all-n : goal.returns-then-all-n
 returns-then-all-n c =
-    too_many _ _ _ c.if-all-n.true c.if-n-all.false
-    ∙ y_read _ _ _ _ c.min-there.ensures c.words_within-w.ensures c.if-w-there.false c.if-n-le-WORDS.false _ refl c.if-long_x.false
-    c.if-n-at.false _ refl c.if-long_y.false
+    ap Err c.wrong_at-then-all-n.ensures ∙ too_many _ _ _ c.if-all-n.true c.if-n-all.false
+    ∙ y_read _ _ _ _ c.min-there.ensures c.words_within-w.ensures c.if-w-there.false _ c.in_ok-xs.ensures.value _ c.in_ok-ys.ensures.value

@@ -1,8 +1,8 @@
-use Rattle.std.proofs.Common.{rules, arith, ◌≡◌, ℕ, ◌+◌, ◌≤◌, List, ◌++◌, length, take, drop, sym, ap, refl, ◌∙◌, subst, drop_at, length-take-le}
+use Rattle.std.proofs.Common.{rules, ◌≡◌, ℕ, ◌+◌, ◌≤◌, List, ◌++◌, length, take, drop, sym, ap, refl, ◌∙◌, subst, drop_at, length-take-le}
 use lib.Seq.{take-add, take-append-le}
 use borrow.Rule.Slice.PartMut.{put_mid, post_of, take_put}
 use Rattle.std.specs.Io.KnownBytes.{Consumes}
-use Rattle.std.proofs.KnownBytes.{Consumes-nil, Consumes-trans}
+use Rattle.std.proofs.KnownBytes.{Consumes-trans}
 use Rattle.intake.proofs.read_text.Goals as goal
 
 -- what stands before a place, and the bytes read from there on
@@ -15,23 +15,8 @@ front at room n xs ys end within few same =
     ∙ ap (λ l. l ++ take n (drop at all)) (take_put at room xs ys within)
     ∙ ap (λ l. take at xs ++ l) (ap (take n) (drop_at (take at xs) (ys ++ rest) at (length-take-le at xs within)) ∙ take-append-le n ys rest few)
 
-pub loop-size-init : goal.loop-size-init
-loop-size-init g c = (search rules, search rules, Consumes-nil _)
-
-pub returns-then-ended-clause-bytes : goal.returns-then-ended-clause-bytes
-returns-then-ended-clause-bytes g c =
-    let read = c.in_ok-more.ensures in
-    let bytes = front c.loop-size.size _ c.in_ok-more.more _ _ c.loop-size.size c.loop-size.invariant.1 read.bound.0 (omega (arith, c.if-ended.true)) in
-    subst (Consumes _ _) (sym bytes) (Consumes-trans _ _ _ _ _ c.loop-size.invariant.2 read.bytes.0)
-
 pub loop-size-preserved : goal.loop-size-preserved
 loop-size-preserved g c =
     let read = c.in_ok-more.ensures in
     let bytes = front c.loop-size.size _ c.in_ok-more.more _ _ (c.loop-size.size + c.in_ok-more.more) c.loop-size.invariant.1 read.bound.0 refl in
     (search rules, search rules, subst (Consumes _ _) (sym bytes) (Consumes-trans _ _ _ _ _ c.loop-size.invariant.2 read.bytes.0))
-
-pub returns-clause-in_bounds : goal.returns-clause-in_bounds
-returns-clause-in_bounds g c = (c.loop-size.invariant.1, sym (length-take-le _ _ c.loop-size.invariant.1))
-
-pub returns-clause-bytes : goal.returns-clause-bytes
-returns-clause-bytes g c = c.loop-size.invariant.2

@@ -1,9 +1,6 @@
-use Rattle.std.proofs.Common.{rules, refl}
-use Rattle.lists.proofs.Table.{turn, done}
+use Rattle.std.proofs.Common.{rules}
+use Rattle.lists.proofs.Table.{turn}
 use Rattle.motion.proofs.references_after.Goals as goal
 
 pub loop-i-preserved : goal.loop-i-preserved
 loop-i-preserved c = turn _ _ _ _ _ (search rules) c.loop-i.invariant c.reference_after.ensures
-
-pub returns : goal.returns
-returns c = done _ _ _ _ 20 refl c.loop-i.auto.i-end c.loop-i-test.false c.loop-i.invariant

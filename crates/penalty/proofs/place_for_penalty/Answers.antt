@@ -10,7 +10,7 @@ use Rattle.penalty.proofs.place_for_penalty.Goals.{in-Home, in-Away, then-y, els
 pub returns-then-xs-ys : goal.returns-then-xs-ys
 returns-then-xs-ys c =
     let a = c.args in
-    place_none a.game.sides a.field a.distance a.home a.away a.xs.now a.ys.now a.side a.number c.if-xs-ys.true
+    place_none a.game.sides a.field a.distance a.home a.away a.earlier.xs.now a.earlier.ys.now a.side a.number c.if-xs-ys.true
 
 pub returns-in-None : goal.returns-in-None
 returns-in-None c =
@@ -21,7 +21,7 @@ returns-in-None c =
       | in-Home w ↦ player_told a.home a.away a.home a.side Home a.number q w.in-Home.is refl (w.player-is ∙ w.player_numbered-player.ensures)
       | in-Away w ↦ player_told a.home a.away a.away a.side Away a.number q w.in-Away.is refl (w.player-is ∙ w.player_numbered-player-in-Away.ensures)
     ] in
-    place_absent a.game.sides a.field a.distance a.home a.away a.xs.now a.ys.now a.side a.number q c.if-xs-ys.false found c.in-None.is
+    place_absent a.game.sides a.field a.distance a.home a.away a.earlier.xs.now a.earlier.ys.now a.side a.number q c.if-xs-ys.false found c.in-None.is
 
 pub returns-after-y : goal.returns-after-y
 returns-after-y c =
@@ -35,6 +35,6 @@ returns-after-y c =
     let y = c.copysign-y.result in
     let headed : c.if-y.theta ≡ inward y =
     elim c.if-y.branch [ then-y w ↦ heading_told y c.if-y.theta true w.if-y.true w.theta-is | else-y w ↦ heading_told y c.if-y.theta false w.if-y.false w.theta-is ] in
-    place_given a.game.sides a.field a.distance a.home a.away a.xs.now a.ys.now a.side a.number q c.if-xs-ys.false found
+    place_given a.game.sides a.field a.distance a.home a.away a.earlier.xs.now a.earlier.ys.now a.side a.number q c.if-xs-ys.false found
     _ c.side_to_sign-sign.result y c.if-y.theta c.team_place-team_x.result
     c.in-Some.is c.side_to_sign-sign.ensures c.copysign-y.ensures headed c.team_place-team_x.ensures

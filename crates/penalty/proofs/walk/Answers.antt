@@ -14,7 +14,7 @@ pub returns-then-choice : goal.returns-then-choice
 returns-then-choice c =
     let at = c.loop-j in
     let a = c.args in
-    let spots = occupied a.home a.away a.side a.number a.xs.now a.ys.now in
+    let spots = occupied a.home a.away a.side a.number a.earlier.xs.now a.earlier.ys.now in
     let f = after_try a.search spots in
     let here : (fold_to at.j f a.start).reached ≡ true = ap (λ (z : Choice). z.reached) (sym at.invariant) ∙ c.if-choice.true in
     at.invariant ∙ sym (fold_quiet f a.start at.j a.tries at.auto.j-end (λ k l h. reached_stays a.search spots k (fold_to at.j f a.start) here))

@@ -1,6 +1,8 @@
 use Rattle.std.proofs.Common.{rules, ◌<◌, length, ap, ◌∙◌, arith}
 use mir.Syntax.{w64}
 use mir.ValLaws.{to_z-of_z}
+use Rattle.refusal.specs.Refusal.{number_in}
+use Rattle.candidates.proofs.CandidatesAnswer.{number_back}
 use Rattle.referee_c.specs.Entries.{minus}
 use Rattle.referee_c.proofs.Signed.{count_fits, count_read}
 use Rattle.referee_c.proofs.EntryLaws.{none_filled, some_filled, front_fits}
@@ -11,7 +13,7 @@ returns-then-n-eq0-clause-value c =
     let a = c.args in
     to_z-of_z w64 c.minus-then-n-eq0.result (search rules)
     ∙ c.minus-then-n-eq0.ensures
-    ∙ ap minus c.candidates_refusal-refusal.ensures
+    ∙ ap minus (c.number_in.ensures ∙ ap number_in c.candidates_refusal-refusal.ensures ∙ number_back tt a.start a.min a.max a.step (length a.list.now))
     ∙ none_filled a.start a.min a.max a.step (length a.list.now) c.fill_candidates-n.result c.fill_candidates-n.ensures.value c.if-n-eq0.true
 
 -- as many as the list has places for, and so an i64

@@ -18,11 +18,11 @@ pub returns-then-situation : goal.returns-then-situation
 returns-then-situation c =
     let a = c.args in
     let call = c.write_sheet-answer in
-    let told = a_situation a.to a.words.now a.xs.now a.ys.now a.sheet.now _ call.result _ (sym c.is_situation-situation.ensures ∙ c.if-situation.true) c.situation_of-s.ensures call.ensures.value call.ensures.sheet_after in
+    let told = a_situation a.to a.words.now a.earlier.xs.now a.earlier.ys.now a.sheet.now _ call.result _ (sym c.is_situation-situation.ensures ∙ c.if-situation.true) c.situation_of-s.ensures call.ensures.value call.ensures.sheet_after in
     record { value = to_z-of_z w64 c.answer_number.result (search rules) ∙ c.answer_number.ensures ∙ told.0; sheet_after = told.1 }
 
 pub returns : goal.returns
 returns c =
     let a = c.args in
-    let told = no_situation a.to a.words.now a.xs.now a.ys.now a.sheet.now (sym c.is_situation-situation.ensures ∙ c.if-situation.false) in
+    let told = no_situation a.to a.words.now a.earlier.xs.now a.earlier.ys.now a.sheet.now (sym c.is_situation-situation.ensures ∙ c.if-situation.false) in
     record { value = to_z-of_z w64 c.minus-2.result (search rules) ∙ c.minus-2.ensures ∙ told.0; sheet_after = told.1 }

@@ -1,18 +1,17 @@
--- Three pieces, each where the one before it ended, are the line.
-use Rattle.std.proofs.Common.{arith, replicate, append_assoc}
-use Rattle.lines.proofs.Over.{stage_none}
-use Rattle.replies.specs.Replies.{refused_line}
-use Rattle.replies.proofs.Pieces.{zeros, stage_within, line_written}
+-- The word, the number and a line feed, one after the other, are the line.
+use Rattle.std.proofs.Common.{[], ◌∷◌, ap, ◌∙◌, append_assoc}
+use Rattle.text.specs.Decimal.{decimal_of}
+use Rattle.text.specs.Pushed.{pushed}
+use Rattle.text.proofs.Pushed.{first_piece, next_piece}
+use Rattle.replies.specs.Replies.{refused_word, refused_line}
+use Rattle.replies.proofs.Pieces.{line_written}
+use Rattle.replies.proofs.Lengths.{refused_line_few}
 use Rattle.replies.proofs.refused_line.Goals as goal
 
 pub returns : goal.returns
 unfolding refused_line
 returns c =
-    let word = c.put-a.ensures in
-    let number = c.put_number-b.ensures in
-    let feed = c.put-c.ensures in
-    let a = stage_within _ _ _ (stage_none 0 (replicate 256 0)) (omega (arith, zeros)) word.out_after word.value in
-    let b = stage_within _ _ _ a (omega (arith, zeros, word.value, number.value.0, number.value.1)) number.out_after number.value.0 in
-    let e = stage_within _ _ _ b (omega (arith, zeros, word.value, number.value.1)) feed.out_after feed.value in
-    let t = line_written (refused_line c.args.refusal) c.args.out.now _ _ e (simp append_assoc) c.told.ensures.value c.told.ensures.out_after in
+    let word = first_piece 256 _ c.new-line.ensures c.push.ensures in
+    let all = next_piece 256 _ _ _ (next_piece 256 _ _ _ word c.push_number.ensures) c.push-2.ensures in
+    let t = line_written 256 (refused_line c.args.refusal) c.args.out.now _ _ (c.as_bytes.ensures ∙ all ∙ ap (pushed 256 []) (append_assoc refused_word (decimal_of c.args.refusal) (10 ∷ []))) (refused_line_few c.args.refusal) c.told.ensures.value c.told.ensures.out_after in
     record { value = t.0; out_after = t.1 }

@@ -1,21 +1,23 @@
--- Four pieces, each where the one before it ended, are the line.
-use Rattle.std.proofs.Common.{arith}
-use Rattle.sentences.proofs.Pieces.{line_short, line_fits}
+-- The pieces, each where the one before it ended, are the line.
+use Rattle.std.proofs.Common.{refl, ap, length, arith}
+use Rattle.sentences.proofs.Pieces.{digits_told, line_short, line_fits}
 use Rattle.sentences.proofs.coach_line.Goals as goal
 
 pub returns-then-too_few : goal.returns-then-too_few
 returns-then-too_few c =
-    let short = line_short c.args.side c.args.number c.args.verdict c.args.condition c.side_part-s.result c.verdict_part-v.result c.condition_part-c.result c.digits_of-count.result
-    c.side_part-s.ensures c.verdict_part-v.ensures c.condition_part-c.ensures c.digits_of-count.ensures c.args.text.now (omega (arith, c.if-too_few.true)) in
+    let short = line_short c.args.side c.args.number c.args.verdict c.args.condition _ _ _ _ c.args.text.now c.side_word-s.ensures.value refl c.verdict_words-v.ensures.value c.condition_words-c.ensures.value (omega (arith, c.if-too_few.true, c.digits_of-count.ensures.value)) in
     record { value = short.0; text_after = short.1 }
 
 pub returns : goal.returns
 returns c =
-    let whole = line_fits c.args.side c.args.number c.args.verdict c.args.condition c.side_part-s.result c.verdict_part-v.result c.condition_part-c.result c.digits_of-count.result
-    c.side_part-s.ensures c.verdict_part-v.ensures c.condition_part-c.ensures c.digits_of-count.ensures c.args.text.now c.if-too_few.false
-    _ _ _ _ _ _ _ _
-    c.put_words-a.ensures.out_after c.put_words-a.ensures.value c.put_words-a.auto.out
-    c.put-b.ensures.out_after c.put-b.ensures.value c.put-b.auto.out
-    c.put_words-d.ensures.out_after c.put_words-d.ensures.value c.put_words-d.auto.out
-    c.put_words.ensures.out_after c.put_words.ensures.value c.put_words.auto.out in
+    let digits = digits_told c.args.number c.digits_of-count.result c.digits_of-count.ensures.value in
+    let whole = line_fits c.args.side c.args.number c.args.verdict c.args.condition _ _ _ _ c.args.text.now c.side_word-s.ensures.value digits c.verdict_words-v.ensures.value c.condition_words-c.ensures.value
+    (omega (arith, c.if-too_few.false, c.digits_of-count.ensures.value, ap length digits)) _ _ _ _ _ _ _ _ _ _ _ _ _ _
+    c.put-after_side.ensures.out_after c.put-after_side.ensures.value c.put-after_side.auto.out
+    c.put-number_place.ensures.out_after c.put-number_place.ensures.value c.put-number_place.auto.out
+    c.put-after_number.ensures.out_after c.put-after_number.ensures.value c.put-after_number.auto.out
+    c.put-verdict_place.ensures.out_after c.put-verdict_place.ensures.value c.put-verdict_place.auto.out
+    c.put-after_verdict.ensures.out_after c.put-after_verdict.ensures.value c.put-after_verdict.auto.out
+    c.put-condition_place.ensures.out_after c.put-condition_place.ensures.value c.put-condition_place.auto.out
+    c.put.ensures.out_after c.put.ensures.value c.put.auto.out in
     record { value = whole.0; text_after = whole.1 }

@@ -11,17 +11,19 @@ loop-k-init c = (omega arith, refl, refl)
 pub returns-then-lower-min : goal.returns-then-lower-min
 returns-then-lower-min c =
     let a = c.args in
+    let s = a.span in
     let known = c.requires in
     let i = c.loop-k.invariant in
-    walk_stops a.first a.min a.max a.step known.0 known.1 known.2 known.3 c.from_count.result c.loop-k.k c.loop-k.n (omega arith) c.from_count.ensures c.if-lower-min.true i.1 i.2
+    walk_stops a.first s.min s.max s.step known.0 known.1 known.2 known.3 c.from_count.result c.loop-k.k c.loop-k.n (omega arith) c.from_count.ensures c.if-lower-min.true i.1 i.2
 
 pub loop-k-preserved : goal.loop-k-preserved
 loop-k-preserved c =
     let a = c.args in
+    let s = a.span in
     let known = c.requires in
     let i = c.loop-k.invariant in
     let v = c.from_count.result in (
-      omega (arith, two_more a.first a.min a.max a.step v),
-      count_grows a.first a.min a.max a.step v c.loop-k.k c.loop-k.n c.from_count.ensures i.1,
-      walk_goes_on a.first a.min a.max a.step known.0 known.1 known.2 known.3 v c.loop-k.k (omega arith) c.from_count.ensures c.if-lower-min.false i.2,
+      omega (arith, two_more a.first s.min s.max s.step v),
+      count_grows a.first s.min s.max s.step v c.loop-k.k c.loop-k.n c.from_count.ensures i.1,
+      walk_goes_on a.first s.min s.max s.step known.0 known.1 known.2 known.3 v c.loop-k.k (omega arith) c.from_count.ensures c.if-lower-min.false i.2,
     )

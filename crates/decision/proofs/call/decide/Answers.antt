@@ -1,11 +1,12 @@
--- By the refusal: 0 beside the decision, another number beside the empty one.
-use Rattle.std.proofs.Common.{◌∙◌}
-use Rattle.refusals.proofs.Numbers.{number_told}
+-- What is refused is not decided.
+use Rattle.std.proofs.lemmas.Result.{err_from_is_err_and}
 use Rattle.decision.proofs.Told.{answer_accepted, answer_refused}
 use Rattle.decision.proofs.call.decide.Goals as goal
 
-pub returns-then-accepted : goal.returns-then-accepted
-returns-then-accepted c = answer_accepted _ _ _ _ _ (c.number_in-refusal.ensures ∙ number_told _ _ _ _ c.refusal.ensures) c.if-accepted.true c.decision_of-decision.ensures
+pub returns-in_err-refusal : goal.returns-in_err-refusal
+returns-in_err-refusal c =
+    let p = err_from_is_err_and c.from_residual.result c.from_residual.ensures.1 in
+    rw (p.1, p.2) (answer_refused c.args.s c.args.earlier.xs.now c.args.earlier.ys.now _ c.in_err-refusal.ensures)
 
 pub returns : goal.returns
-returns c = answer_refused _ _ _ _ _ (c.number_in-refusal.ensures ∙ number_told _ _ _ _ c.refusal.ensures) c.if-accepted.false c.empty_decision-decision.ensures
+returns c = answer_accepted _ _ _ _ c.in_ok-refusal.ensures c.decision_of.ensures

@@ -27,7 +27,7 @@ returns-then-q-eq2139095040 c =
 
 pub returns-then-g-h : goal.returns-then-g-h
 returns-then-g-h c =
-    let before : exponent_of (part c.args.x) < exponent_of (part c.args.y) = omega (arith, c.bits-b.ensures, c.bits-q.ensures, c.exponent-g.ensures, c.exponent-h.ensures, c.if-g-h.true) in
+    let before : exponent_of (part c.args.x) < exponent_of (part c.args.y) = omega (arith, c.bits-b.ensures, c.bits-q.ensures, c.saturating_sub-g.ensures, c.saturating_sub-h.ensures, c.if-g-h.true) in
     smaller c.args.x c.args.y (subst T (sym c.well_formed.0.1) tt) (subst T (sym c.well_formed.1.0.1) tt) (omega (arith, c.bits-b.ensures, c.if-p-ge2139095040.false))
     (omega (arith, c.bits-q.ensures, c.if-q-gt2139095040.false, c.if-q-eq2139095040.false)) before
 
@@ -37,8 +37,8 @@ returns c =
     let y = c.args.y in
     let p_is : c.bits-b.result % 2147483648 ≡ part x = ap (λ (z : ℕ). z % 2147483648) c.bits-b.ensures in
     let q_is : c.bits-q.result % 2147483648 ≡ part y = ap (λ (z : ℕ). z % 2147483648) c.bits-q.ensures in
-    let g_is : c.exponent-g.result ≡ exponent_of (part x) = c.exponent-g.ensures ∙ ap exponent_of p_is in
-    let h_is : c.exponent-h.result ≡ exponent_of (part y) = c.exponent-h.ensures ∙ ap exponent_of q_is in
+    let g_is : c.saturating_sub-g.result ≡ exponent_of (part x) = c.saturating_sub-g.ensures ∙ ap exponent_of p_is in
+    let h_is : c.saturating_sub-h.result ≡ exponent_of (part y) = c.saturating_sub-h.ensures ∙ ap exponent_of q_is in
     let r_is : c.shifted_remainder-r.result ≡ significand_of (part x) * 2 ^ (exponent_of (part x) - exponent_of (part y)) % significand_of (part y) = cc (c.shifted_remainder-r.ensures, p_is, q_is, g_is, h_is) in
     let value : units_in c.pattern_of.result ≡ c.shifted_remainder-r.result * 2 ^ exponent_of (part y) = c.pattern_of.ensures.1 ∙ ap (λ (z : ℕ). c.shifted_remainder-r.result * 2 ^ z) h_is in
     let moved : c.bits-b.result - c.bits-b.result % 2147483648 + c.pattern_of.result ≡ to_bits binary32 x - part x + c.pattern_of.result = ap (λ (z : ℕ). z - z % 2147483648 + c.pattern_of.result) c.bits-b.ensures in

@@ -16,9 +16,9 @@ pub returns-then-hi-lt2139095040 : goal.returns-then-hi-lt2139095040
 returns-then-hi-lt2139095040 c =
     let p = c.bits-p.result % 2147483648 in
     let q = c.bits-q.result % 2147483648 in
-    ap (of_bits binary32) (c.nearest.ensures ∙ ap nearest_root (either_order p q _ _ c.larger-hi.ensures c.smaller-lo.ensures))
+    ap (of_bits binary32) (c.nearest.ensures ∙ ap nearest_root (either_order p q _ _ c.max-hi.ensures c.min-lo.ensures))
     ∙ finite _ _ p q (shaped _ _ c.bits-p.ensures (subst T (sym c.well_formed.0.1) tt)) (shaped _ _ c.bits-q.ensures (subst T (sym c.well_formed.1.0.1) tt))
-    (omega (arith, c.if-hi-lt2139095040.true, c.larger-hi.ensures)) (omega (arith, c.if-hi-lt2139095040.true, c.larger-hi.ensures))
+    (omega (arith, c.if-hi-lt2139095040.true, c.max-hi.ensures)) (omega (arith, c.if-hi-lt2139095040.true, c.max-hi.ensures))
 
 pub float_from_bits-result-then-p-eq2139095040 : goal.float_from_bits-result-then-p-eq2139095040
 float_from_bits-result-then-p-eq2139095040 c = number_bits binary32 _ (omega arith)
@@ -41,7 +41,7 @@ pub returns : goal.returns
 returns c =
     right_nan _ _ _ _ (shaped _ _ c.bits-p.ensures (subst T (sym c.well_formed.0.1) tt)) (shaped _ _ c.bits-q.ensures (subst T (sym c.well_formed.1.0.1) tt))
     c.if-p-eq2139095040.false
-    (rest (c.bits-p.result % 2147483648) (c.bits-q.result % 2147483648) c.larger-hi.result c.larger-hi.ensures c.if-hi-lt2139095040.false c.if-p-eq2139095040.false c.if-q-eq2139095040.false c.if-p-gt2139095040.false)
+    (rest (c.bits-p.result % 2147483648) (c.bits-q.result % 2147483648) c.max-hi.result c.max-hi.ensures c.if-hi-lt2139095040.false c.if-p-eq2139095040.false c.if-q-eq2139095040.false c.if-p-gt2139095040.false)
   where
     rest : (p q hi : ℕ) → hi ≡ max p q → 0x7f80_0000 ≤ hi → (p ≡ 0x7f80_0000 → ⊥) → (q ≡ 0x7f80_0000 → ⊥) → p ≤ 0x7f80_0000 → 0x7f80_0000 < q
     rest p q hi e h a b d = omega arith

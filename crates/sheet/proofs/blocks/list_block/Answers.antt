@@ -6,20 +6,11 @@ use Rattle.sheet.specs.Blocks.{block_rows}
 use Rattle.sheet.proofs.BlockLaws.{list_held}
 use Rattle.sheet.proofs.blocks.list_block.Goals as goal
 
-pub returns-then-list-lt20 : goal.returns-then-list-lt20
+pub returns : goal.returns
 unfolding block_rows
-returns-then-list-lt20 c = let a = c.args in
+returns c = let a = c.args in
     λ value follow. (
-      omega (arith, c.if-list-lt20.true),
-      ap (λ (w : ℕ). table a.list.count (λ k. row a.kind w (get_or a.list.numbers k 0) (get_or a.values k 0))) c.side_code-code.ensures
-          ∙ list_held a.kind a.list.count a.side a.list a.values value (search rules) (omega (arith, c.if-list-lt20.true)) follow,
-    )
-
-pub returns-else-list-lt20 : goal.returns-else-list-lt20
-unfolding block_rows
-returns-else-list-lt20 c = let a = c.args in
-    λ value follow. (
-      omega arith,
-      ap (λ (w : ℕ). table 20 (λ k. row a.kind w (get_or a.list.numbers k 0) (get_or a.values k 0))) c.side_code-code.ensures
-          ∙ list_held a.kind 20 a.side a.list a.values value (search rules) (omega (arith, c.if-list-lt20.false)) follow,
+      omega (arith, c.min.ensures),
+      ap (λ (w : ℕ). table c.min.result (λ k. row a.kind w (get_or a.list.numbers k 0) (get_or a.values k 0))) c.side_code-code.ensures
+          ∙ list_held a.kind c.min.result a.side a.list a.values value (search rules) c.min.ensures follow,
     )
