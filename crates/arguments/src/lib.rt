@@ -69,6 +69,7 @@ fn source_of(word: &[u8], file: Source) -> Source
 }
 
 // What so many words ask for, of which the first two are given; none where it cannot be told.
+// A count beside the two words and no slice of words: of a third word it is known only that it is there, so that a slice would need bytes that stand for it.
 pub fn asked_by(words: usize, first: &[u8], second: &[u8]) -> Option<Asked>
     ensures { result ≡ Spec.asked_of words first.now second.now }
 {
@@ -82,27 +83,19 @@ pub fn asked_by(words: usize, first: &[u8], second: &[u8]) -> Option<Asked>
     if too_many {
         return None;
     }
-    let command = command_of(first);
     if words == 1 {
-        return match command {
-            None => {
-                let source = source_of(first, Source::FirstWord);
-                Some(Asked {
-                    command: Command::Sheet,
-                    source,
-                })
-            }
+        return match command_of(first) {
+            None => Some(Asked {
+                command: Command::Sheet,
+                source: source_of(first, Source::FirstWord),
+            }),
             Some(command) => Some(Asked {
                 command,
                 source: Source::StandardInput,
             }),
         };
     }
-    match command {
-        None => None,
-        Some(command) => {
-            let source = source_of(second, Source::SecondWord);
-            Some(Asked { command, source })
-        }
-    }
+    let command = command_of(first)?;
+    let source = source_of(second, Source::SecondWord);
+    Some(Asked { command, source })
 }

@@ -6,24 +6,16 @@ mod sheets;
 
 ghost use Rattle.std.specs.Prelude.{◌≤◌, length};
 
-use records::Record;
+use call::SheetFor;
+use records::{Record, Tally};
 use sheets::Asked;
 use std::io;
-use std::num::wrapping_add_u64;
 
 // Room for the list.
 const ROOM: usize = 458752;
 
 // More records than the list has.
 const MOST: u32 = 10000;
-
-// How many records agree, of how many, and where the next begins. The sums wrap, so that no bound on them has to be shown.
-#[derive(Clone, Copy)]
-struct Tally {
-    agree: u64,
-    records: u64,
-    at: usize,
-}
 
 // Whether a record of the list agrees.
 fn agrees(list: &[u8], r: Record) -> bool
@@ -37,58 +29,58 @@ fn agrees(list: &[u8], r: Record) -> bool
     let kind = r.kind;
     match kind {
         1..=8 => sheets::judged(kind, input, r.lent, answer),
-        10..=17 => sheets::called(Asked::Desk, input, r.lent, kind - 10, answer),
+        10..=17 => sheets::called(
+            Asked::Sheet(SheetFor::Desk),
+            input,
+            r.lent,
+            kind - 10,
+            answer,
+        ),
         20..=28 => sheets::called(Asked::Sentence, input, r.lent, kind - 20, answer),
-        30..=42 => sheets::called(Asked::Display, input, r.lent, kind - 30, answer),
+        30..=42 => sheets::called(
+            Asked::Sheet(SheetFor::Display),
+            input,
+            r.lent,
+            kind - 30,
+            answer,
+        ),
         _ => false,
     }
 }
 
-// Counts a record, after which the list goes on at a place. Where it does not agree, that is written.
-fn counted(rt: &impl Print, t: Tally, same: bool, at: usize) -> io::Result<Tally> {
-    let records = wrapping_add_u64(t.records, 1);
-    if same {
-        let agree = wrapping_add_u64(t.agree, 1);
-        return Ok(Tally { agree, records, at });
+// Counts a record. Where it does not agree, that is written.
+fn counted(rt: &impl Print, tally: Tally, same: bool) -> io::Result<Tally> {
+    let tally = tally.counted(same);
+    if !same {
+        println!(rt; "record {} differs", tally.records)?;
     }
-    println!(rt; "record {records} differs")?;
-    Ok(Tally {
-        agree: t.agree,
-        records,
-        at,
-    })
+    Ok(tally)
 }
 
-// One record on. Where one is broken, it is not known where the next begins.
-fn step(rt: &impl Print, list: &[u8], t: Tally) -> io::Result<Tally> {
-    match records::record_at(list, t.at) {
-        Some(r) => counted(rt, t, agrees(list, r), r.next),
-        None => {
-            print!(rt; "broken: ")?;
-            counted(rt, t, false, list.len())
-        }
-    }
-}
-
-// All records, up to the end of the list or the first broken one.
+// All records, up to the end of the list or the first broken one, after which it is not known where the next begins.
 fn compared(rt: &impl Print, list: &[u8]) -> io::Result<Tally> {
-    let mut t = Tally {
+    let mut tally = Tally {
         agree: 0,
         records: 0,
-        at: 0,
     };
+    let mut at = 0;
     for _ in 0..MOST {
-        if t.at == list.len() {
-            return Ok(t);
+        if at == list.len() {
+            return Ok(tally);
         }
-        t = step(rt, list, t)?;
+        let Some(r) = records::record_at(list, at) else {
+            print!(rt; "broken: ")?;
+            return counted(rt, tally, false);
+        };
+        tally = counted(rt, tally, agrees(list, r))?;
+        at = r.next;
     }
-    Ok(t)
+    Ok(tally)
 }
 
 fn main(rt: HostRuntime) -> io::Result<()> {
     let mut list = [0u8; ROOM];
     let n = intake::read_text(&mut rt.stdin(), &mut list)?;
-    let t = compared(&rt, &list[..n])?;
-    println!(rt; "{} of {} agree", t.agree, t.records)
+    let tally = compared(&rt, &list[..n])?;
+    println!(rt; "{} of {} agree", tally.agree, tally.records)
 }

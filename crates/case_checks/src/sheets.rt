@@ -1,7 +1,9 @@
 // What records have: a text that the program `judge` reads, or words for the library's calls.
 use call::SheetFor;
+use columns::layout::WORDS;
 use desk::Reply;
 use game::Earlier;
+use input::PLACES;
 use refusal::Refusal;
 
 // What each lent byte holds before a call; no text here has it.
@@ -10,19 +12,26 @@ const FILL: u8 = 170;
 // More bytes than a record lends.
 const MOST: usize = 7680;
 
-// The numbers of an input: 563 words, how many earlier x and y there are, and the pattern of each of these; for a coach's line the side and the number of a player after them.
-const SHEET_NUMBERS: usize = 566;
+// What the numbers of an input for a sheet are after the words: how many earlier x and y there are, and the pattern of each of these.
+const XS: usize = WORDS;
 
-const NUMBERS: usize = 568;
+const YS: usize = WORDS + 1;
 
-// The most earlier x, and earlier y.
-const PLACES: usize = 4097;
+const PLACE: usize = WORDS + 2;
 
-// The library's calls: for a sheet, for the desk or the display, and for a coach's line. An enum and no closure, since a call also says how many numbers its input has.
+const SHEET_NUMBERS: usize = WORDS + 3;
+
+// For a coach's line the side and the number of a player come after them.
+const SIDE: usize = SHEET_NUMBERS;
+
+const NUMBER: usize = SHEET_NUMBERS + 1;
+
+const NUMBERS: usize = SHEET_NUMBERS + 2;
+
+// The library's calls: for a sheet, and for a coach's line. An enum and no closure, since a call also says how many numbers its input has.
 #[derive(Clone, Copy)]
 pub(crate) enum Asked {
-    Desk,
-    Display,
+    Sheet(SheetFor),
     Sentence,
 }
 
@@ -38,16 +47,16 @@ fn replied(kind: u32, text: &[u8], out: &mut [u8]) -> Reply {
 }
 
 // Whether this is told for the input, with so many bytes lent, where the kind is odd, or answered where it is even, and all other bytes are kept.
+// `replay` has two arms of a reply too: a function for both would be the same `match`, handed one test more, in a crate above `desk`.
 pub(crate) fn judged(kind: u32, input: &[u8], lent: usize, answer: &[u8]) -> bool {
     if MOST < lent {
         return false;
     }
     let mut bytes = [FILL; MOST];
     let reply = replied(kind, input, &mut bytes[..lent]);
-    let kept = records::holds(&bytes, answer, FILL);
     match reply {
-        Reply::Answer(n) => kept & (n == answer.len()) & (kind % 2 == 0),
-        Reply::Told(n) => kept & (n == answer.len()) & (kind % 2 == 1),
+        Reply::Answer(n) => records::is_written(n, &bytes, answer, FILL) & (kind % 2 == 0),
+        Reply::Told(n) => records::is_written(n, &bytes, answer, FILL) & (kind % 2 == 1),
     }
 }
 
@@ -68,11 +77,10 @@ fn written(
 ) -> Result<usize, Refusal> {
     let s = words::situation_of(numbers);
     match asked {
-        Asked::Desk => call::write_sheet(SheetFor::Desk, s, earlier, out),
-        Asked::Display => call::write_sheet(SheetFor::Display, s, earlier, out),
+        Asked::Sheet(to) => call::write_sheet(to, s, earlier, out),
         Asked::Sentence => {
-            let side = words::side_of(numbers[566]);
-            call::write_sentence(s, earlier, side, numbers[567], out)
+            let side = words::side_of(numbers[SIDE]);
+            call::write_sentence(s, earlier, side, numbers[NUMBER], out)
         }
     }
 }
@@ -80,8 +88,7 @@ fn written(
 // How many numbers the input of a call has.
 fn size_of(asked: Asked) -> usize {
     match asked {
-        Asked::Desk => SHEET_NUMBERS,
-        Asked::Display => SHEET_NUMBERS,
+        Asked::Sheet(_) => SHEET_NUMBERS,
         Asked::Sentence => NUMBERS,
     }
 }
@@ -93,11 +100,11 @@ fn call(
     bytes: &mut [u8],
     lent: usize,
 ) -> Option<Result<usize, Refusal>> {
-    let place = floats::from_bits(numbers[565]);
+    let place = floats::from_bits(numbers[PLACE]);
     let xs = [place; PLACES];
     let ys = [place; PLACES];
-    let nx = (numbers[563] as usize).min(PLACES);
-    let ny = (numbers[564] as usize).min(PLACES);
+    let nx = (numbers[XS] as usize).min(PLACES);
+    let ny = (numbers[YS] as usize).min(PLACES);
     if lent <= bytes.len() {
         let earlier = Earlier {
             xs: &xs[..nx],

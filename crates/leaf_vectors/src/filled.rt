@@ -14,7 +14,8 @@ fn bits_at(list: &[f32], i: usize) -> u32 {
     bits(list.get(i).copied().unwrap_or(FILL))
 }
 
-// How many candidates are filled into the front of the list, of which so many places are lent.
+// How many candidates are filled into the front of the list, of which so many places are lent; 0 where there are not so many.
+// No Option: one caller prints this number, the other looks only at the list.
 fn fill(span: Span, list: &mut [f32], lent: usize) -> usize {
     if lent <= list.len() {
         return candidates::fill_candidates(span, &mut list[..lent]);

@@ -5,9 +5,8 @@
 mod decimals;
 mod filled;
 
-ghost use Rattle.std.specs.Prelude.{◌≤◌};
-
 use floats::{bits, from_bits};
+use records::Tally;
 use std::cmp::Ordering;
 use std::io;
 
@@ -21,6 +20,7 @@ const ROOM: usize = 65536;
 const MOST: usize = 12288;
 
 // What stands for the answer of a number that is no function's. No function gives it: `bits` has another pattern for a NaN.
+// No Option: the one caller compares it with the number that is expected, and prints it as a number.
 const NOTHING: u32 = 0xffff_ffff;
 
 // The number at a place of a vector, and 0 past its end.
@@ -66,30 +66,28 @@ fn value(vector: &[u32]) -> u32 {
     }
 }
 
-// Whether a vector's function gives what is expected. Where it does not, that is written, with the line of the vector.
-fn agrees(rt: &impl Print, vector: &[u32], line: usize) -> io::Result<bool> {
+// Counts a vector. Where its function does not give what is expected, that is written, with the line of the vector.
+fn counted(rt: &impl Print, tally: Tally, vector: &[u32]) -> io::Result<Tally> {
     let got = value(vector);
     let want = at(vector, 7);
-    if got == want {
-        return Ok(true);
+    let tally = tally.counted(got == want);
+    let line = tally.records;
+    if got != want {
+        println!(rt; "line {line} gives {got}, expected {want}")?;
     }
-    println!(rt; "line {line} gives {got}, expected {want}")?;
-    Ok(false)
+    Ok(tally)
 }
 
-// How many of so many vectors agree.
-fn agreeing(rt: &impl Print, vectors: &[u32; MOST], n: usize) -> io::Result<usize>
-    requires { n ≤ 1536 }
-{
-    let all = &vectors[..];
-    let mut agree = 0;
-    for i in 0..n {
-        let from = i * WIDTH;
-        if agrees(rt, &all[from..from + WIDTH], i + 1)? {
-            agree += 1;
-        }
+// How many of the vectors agree.
+fn agreeing(rt: &impl Print, vectors: &[u32]) -> io::Result<Tally> {
+    let mut tally = Tally {
+        agree: 0,
+        records: 0,
+    };
+    for vector in vectors.chunks_exact(WIDTH) {
+        tally = counted(rt, tally, vector)?;
     }
-    Ok(agree)
+    Ok(tally)
 }
 
 fn main(rt: HostRuntime) -> io::Result<()> {
@@ -98,7 +96,6 @@ fn main(rt: HostRuntime) -> io::Result<()> {
     let mut vectors = [0u32; MOST];
     // Where something is no number, no vector is taken.
     let read = numbers::read_numbers(&text[..size], &mut vectors).unwrap_or(0);
-    let n = read.min(MOST) / WIDTH;
-    let agree = agreeing(&rt, &vectors, n)?;
-    println!(rt; "{agree} of {n} agree")
+    let tally = agreeing(&rt, &vectors[..read.min(MOST)])?;
+    println!(rt; "{} of {} agree", tally.agree, tally.records)
 }

@@ -12,12 +12,21 @@ pub enum Unread {
     TooLarge(usize),
 }
 
+// A value with one digit more, none from 2^32 on.
+#[tactic(auto, unfolding(crate::specs::Numbers::with_digit))]
+fn with_digit(value: Option<u32>, digit: u8) -> Option<u32>
+    ensures { result ≡ Spec.with_digit value digit }
+{
+    let v = value?;
+    u32::try_from(10 * v as u64 + digit as u64).ok()
+}
+
 // What is known after some bytes. Outside of a field, and wherever there was a fault: what `read_numbers` answers for them.
-// In a field of digits: how many numbers come before it, and its value so far, where 2^32 stands for every value that is too large.
+// In a field of digits: how many numbers come before it, and its value so far, none where it is too large.
 #[derive(Clone, Copy)]
 enum Progress {
     Closed(Result<usize, Unread>),
-    Open(usize, u64),
+    Open(usize, Option<u32>),
 }
 
 // Ends the open field, if there is one: a number is stored, if the list has a place for it.
@@ -28,21 +37,21 @@ fn end_field(progress: Progress, numbers: &mut [u32]) -> Result<usize, Unread>
 {
     match progress {
         Progress::Closed(reading) => reading,
-        Progress::Open(n, v) => {
-            if v > 4294967295 {
-                return Err(Unread::TooLarge(n));
+        Progress::Open(n, value) => match value {
+            None => Err(Unread::TooLarge(n)),
+            Some(v) => {
+                if n < numbers.len() {
+                    numbers[n] = v;
+                }
+                Ok(n + 1)
             }
-            if n < numbers.len() {
-                numbers[n] = v as u32;
-            }
-            Ok(n + 1)
-        }
+        },
     }
 }
 
 // One byte on. After a fault nothing changes.
 fn after_byte(progress: Progress, b: u8, numbers: &mut [u32]) -> Progress
-    requires { (Walk.begun progress < 18446744073709551615) × (Walk.open_value progress ≤ 4294967296) }
+    requires { Walk.begun progress < 18446744073709551615 }
     ensures value { result ≡ Walk.after_byte (Walk.kind_of b) progress }
     ensures numbers_after { numbers.new ≡ Walk.stored_by_byte (Walk.kind_of b) progress numbers.old }
 {
@@ -54,19 +63,15 @@ fn after_byte(progress: Progress, b: u8, numbers: &mut [u32]) -> Progress
         Progress::Closed(reading) => match reading {
             Ok(n) => {
                 if is_digit {
-                    return Progress::Open(n, (b - b'0') as u64);
+                    return Progress::Open(n, Some((b - b'0') as u32));
                 }
                 Progress::Closed(Err(Unread::NotANumber(n)))
             }
             Err(_) => progress,
         },
-        Progress::Open(n, v) => {
+        Progress::Open(n, value) => {
             if is_digit {
-                let w = 10 * v + (b - b'0') as u64;
-                if w > 4294967295 {
-                    return Progress::Open(n, 4294967296);
-                }
-                return Progress::Open(n, w);
+                return Progress::Open(n, with_digit(value, b - b'0'));
             }
             Progress::Closed(Err(Unread::NotANumber(n)))
         }

@@ -1,10 +1,11 @@
 -- The block of a line: which lines have one block, and that blocks never fall. Assumes nothing.
-use mathlib.Core.Path.{◌≡◌, refl, sym}
-use mathlib.Core.Bool.{Bool, true, false, not, ◌&&◌, ◌||◌, cond, true≢false}
+use mathlib.Core.Path.{◌≡◌, refl, sym, ap, ◌∙◌}
+use mathlib.Core.Bool.{Bool, true, false, not, ◌&&◌, ◌||◌, beq, cond, true≢false}
 use Prim.Native.Nat.{ℕ, ◌+◌, ◌*◌, ◌≤◌, ◌<◌, min}
 use native.Mathlib.Omega.{arith}
-use borrow.Author.Tests.{eqb-true, eqb-false, leb-true, leb-false, ltb-true, le-leb}
+use borrow.Author.Tests.{eqb-true, eqb-false, eq-eqb, ne_eqb, leb-true, leb-false, ltb-true, le-leb}
 use lib.Dec.{eqb, ltb, leb}
+use Rattle.lists.proofs.Bools.{both, both_true, by_test, or_left, or_right, same_test}
 use Rattle.lines.specs.declared.Row.{Row}
 use Rattle.reading.specs.Rules.{not_before}
 use Rattle.reading.specs.Walk.{block}
@@ -27,6 +28,76 @@ blocked r = go (leb 7 r.kind) (eqb r.kind 2) (eqb r.side 0) refl refl refl
         up : (s : ℕ) → (s ≡ 0 → ⊥) → 5 ≡ 4 + min s 1
         up s n = omega arith
     go false false s ep eq es = let h = leb-false 7 r.kind ep in other (eqb-false r.kind 2 eq) (omega arith)
+
+-- ---- which lines have one block
+-- one kind, where 7, 8 and 9 are one
+abbrev one_kind : ℕ → ℕ → Bool
+one_kind a b = eqb a b || (leb 7 a && leb 7 b)
+
+kinds_same : (a b : ℕ) → one_kind a b ≡ true → min a 7 ≡ min b 7
+kinds_same a b e =
+    by_test (eqb a b) (λ (t : eqb a b ≡ true). equal (eqb-true a b t))
+    (λ (t : eqb a b ≡ false). let h = both_true (leb 7 a) (leb 7 b) (sym (ap (λ (z : Bool). z || (leb 7 a && leb 7 b)) t) ∙ e) in omega (arith, leb-true 7 a h.0, leb-true 7 b h.1))
+  where
+    equal : a ≡ b → min a 7 ≡ min b 7
+    equal t = omega arith
+
+same_kinds : (a b : ℕ) → min a 7 ≡ min b 7 → one_kind a b ≡ true
+same_kinds a b e =
+    by_test (eqb a b) (λ (t : eqb a b ≡ true). or_left (eqb a b) (leb 7 a && leb 7 b) t)
+    (λ (t : eqb a b ≡ false). or_right (eqb a b) (leb 7 a && leb 7 b) (both (leb 7 a) (leb 7 b) (le-leb 7 a (high a b e (eqb-false a b t))) (le-leb 7 b (high b a (sym e) (λ z. eqb-false a b t (sym z))))))
+  where
+    high : (a b : ℕ) → min a 7 ≡ min b 7 → (a ≡ b → ⊥) → 7 ≤ a
+    high a b e n = omega arith
+
+-- both Home, or both not
+abbrev one_side : ℕ → ℕ → Bool
+one_side a b = beq (eqb a 0) (eqb b 0)
+
+sides_same : (a b : ℕ) → one_side a b ≡ true → min a 1 ≡ min b 1
+sides_same a b = go (eqb a 0) (eqb b 0) refl refl
+  where
+    up : (a b : ℕ) → (a ≡ 0 → ⊥) → (b ≡ 0 → ⊥) → min a 1 ≡ min b 1
+    up a b x y = omega arith
+
+    go : (s t : Bool) → eqb a 0 ≡ s → eqb b 0 ≡ t → beq s t ≡ true → min a 1 ≡ min b 1
+    go true true p q h = omega (arith, eqb-true a 0 p, eqb-true b 0 q)
+    go true false p q h = absurd (true≢false (sym h))
+    go false true p q h = absurd (true≢false (sym h))
+    go false false p q h = up a b (eqb-false a 0 p) (eqb-false b 0 q)
+
+same_sides : (a b : ℕ) → min a 1 ≡ min b 1 → one_side a b ≡ true
+same_sides a b e = go (eqb a 0) (eqb b 0) refl refl
+  where
+    off : (a b : ℕ) → min a 1 ≡ min b 1 → a ≡ 0 → (b ≡ 0 → ⊥) → ⊥
+    off a b e x y = omega arith
+
+    go : (s t : Bool) → eqb a 0 ≡ s → eqb b 0 ≡ t → beq s t ≡ true
+    go true true p q = refl
+    go true false p q = absurd (off a b e (eqb-true a 0 p) (eqb-false b 0 q))
+    go false true p q = absurd (off b a (sym e) (eqb-true b 0 q) (eqb-false a 0 p))
+    go false false p q = refl
+
+pub one_block : (l r : Row) → ((eqb l.kind r.kind || (leb 7 l.kind && leb 7 r.kind)) && (not (eqb r.kind 2) || beq (eqb l.side 0) (eqb r.side 0))) ≡ eqb (block l) (block r)
+one_block l r =
+    same_test (one_kind l.kind r.kind && (not (eqb r.kind 2) || one_side l.side r.side)) (eqb (block l) (block r))
+    (λ e. eq-eqb (block l) (block r) (forth (blocked l) (blocked r) (both_true (one_kind l.kind r.kind) (not (eqb r.kind 2) || one_side l.side r.side) e)))
+    (λ e. back (blocked l) (blocked r) (eqb-true (block l) (block r) e))
+  where
+    forth : Blocked l (block l) → Blocked r (block r) → (one_kind l.kind r.kind ≡ true) × ((not (eqb r.kind 2) || one_side l.side r.side) ≡ true) → block l ≡ block r
+    forth (excess p q) (excess s t) h =
+        let m = sides_same l.side r.side (sym (ap (λ (z : Bool). not z || one_side l.side r.side) (eq-eqb r.kind 2 s)) ∙ h.1) in omega arith
+    forth (excess p q) (other s t) h = let m = kinds_same l.kind r.kind h.0 in absurd (s (omega arith))
+    forth (other p q) (excess s t) h = let m = kinds_same l.kind r.kind h.0 in absurd (p (omega arith))
+    forth (other p q) (other s t) h = let m = kinds_same l.kind r.kind h.0 in omega arith
+
+    back : Blocked l (block l) → Blocked r (block r) → block l ≡ block r → (one_kind l.kind r.kind && (not (eqb r.kind 2) || one_side l.side r.side)) ≡ true
+    back (excess p q) (excess s t) e =
+        both (one_kind l.kind r.kind) (not (eqb r.kind 2) || one_side l.side r.side) (same_kinds l.kind r.kind (omega arith)) (or_right (not (eqb r.kind 2)) (one_side l.side r.side) (same_sides l.side r.side (omega arith)))
+    back (excess p q) (other s t) e = absurd (s (omega arith))
+    back (other p q) (excess s t) e = absurd (p (omega arith))
+    back (other p q) (other s t) e =
+        both (one_kind l.kind r.kind) (not (eqb r.kind 2) || one_side l.side r.side) (same_kinds l.kind r.kind (omega arith)) (or_left (not (eqb r.kind 2)) (one_side l.side r.side) (ap not (ne_eqb r.kind 2 s)))
 
 -- ---- blocks never fall
 -- what `not_before` says

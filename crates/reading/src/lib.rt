@@ -1,7 +1,7 @@
 // Reads a sheet: whether a text is one, and the items of its lines.
 #![tactic(auto)]
 
-ghost use Rattle.std.specs.Prelude.{◌≡◌, ◌≤◌};
+ghost use Rattle.std.specs.Prelude.{◌≡◌, ◌≤◌, eqb};
 ghost use Rattle.reading.specs.Rules as Rules;
 ghost use Rattle.reading.specs.declared.Walk.TheVariants.{Start};
 ghost use Rattle.reading.specs.Reading as Spec;
@@ -38,21 +38,13 @@ enum Walk {
     After(Row, u32),
 }
 
-// The number of the block that a line belongs to: a kind, but for kind 2 a side's, and 7, 8 and 9 are one.
-#[tactic(auto, unfolding(crate::specs::Walk::block))]
-fn block(row: Row) -> u32
-    ensures { result ≡ Steps.block row }
+// Whether two lines are of one block: of one kind, where 7, 8 and 9 are one, and in kind 2 of one side.
+fn same_block(last: Row, row: Row) -> bool
+    ensures { result ≡ eqb (Steps.block last) (Steps.block row) }
 {
-    if row.kind >= 7 {
-        return 14;
-    }
-    if row.kind == 2 {
-        if row.side == 0 {
-            return 4;
-        }
-        return 5;
-    }
-    2 * row.kind
+    let same_kind = (last.kind == row.kind) | ((last.kind >= 7) & (row.kind >= 7));
+    let same_side = (last.side == 0) == (row.side == 0);
+    same_kind & ((row.kind != 2) | same_side)
 }
 
 // Whether a line may begin its block.
@@ -77,22 +69,24 @@ fn ends(row: Row) -> bool
 fn not_before(last: Row, row: Row) -> bool
     ensures { result ≡ Rules.not_before last row }
 {
-    (last.kind < row.kind)
-        | ((last.kind == row.kind) & (!(last.kind == 2) | (last.side <= row.side)))
+    if last.kind == 2 {
+        return (last.kind, last.side) <= (row.kind, row.side);
+    }
+    last.kind <= row.kind
 }
 
 // Whether a player comes before another: Home 1 to 20, then Away 1 to 20.
 fn earlier(last: Row, row: Row) -> bool
     ensures { result ≡ Rules.earlier last row }
 {
-    (last.side < row.side) | ((last.side == row.side) & (last.number < row.number))
+    (last.side, last.number) < (row.side, row.number)
 }
 
 // Whether both lines are for the same player, or for the ball.
 fn same_who(last: Row, row: Row) -> bool
     ensures { result ≡ Rules.same_who last row }
 {
-    (last.side == row.side) & (last.number == row.number)
+    (last.side, last.number) == (row.side, row.number)
 }
 
 // Whether a line may follow the last one in its block. The flags are those of the players that were named in it.
@@ -117,7 +111,7 @@ fn linked(last: Row, seen: u32, row: Row) -> bool
     requires { row.number ≤ 20 }
     ensures { result ≡ Steps.linked last seen row }
 {
-    if block(last) == block(row) {
+    if same_block(last, row) {
         return continues(last, seen, row);
     }
     ends(last) & begins(row)
@@ -142,7 +136,7 @@ fn seen_after(last: Row, seen: u32, row: Row) -> u32
 {
     if row.kind == 2 {
         let flag = 1u32 << row.number;
-        if block(last) == block(row) {
+        if same_block(last, row) {
             return seen | flag;
         }
         return flag;

@@ -1,9 +1,10 @@
 -- Records of a list of bytes, and lent bytes with a text at their front. Definitions only.
-use Rattle.std.specs.Prelude.{Bool, false, ◌&&◌, cond, Option, None, Some, Result, Ok, Err, List, [], ◌∷◌, ℕ, ◌+◌, ◌-◌, eqb, ltb, length, take, drop, get_or}
+use Rattle.std.specs.Prelude.{Bool, false, ◌&&◌, cond, Option, None, Some, Result, Ok, Err, List, [], ◌∷◌, ℕ, ◌+◌, ◌-◌, ◌%◌, ◌^◌, eqb, ltb, length, take, drop, get_or}
 use Rattle.lists.specs.Every.{every_to}
 use Rattle.numbers.specs.declared.Unread.{Unread}
 use Rattle.numbers.specs.Numbers.{numbers_of, reading_of, stored}
 use Rattle.records.specs.declared.Record.{Record}
+use Rattle.records.specs.declared.Tally.{Tally}
 
 -- ---- a record
 -- the line of a head at a place
@@ -35,3 +36,12 @@ record_at list at =
 -- each byte is the text's, and after the text's end the one that was lent
 unfoldable pub holds : List ℕ → ℕ → List ℕ → Bool
 holds text fill bytes = every_to (length bytes) (λ i. eqb (get_or bytes i 0) (get_or text i fill))
+
+-- so many bytes are those of the text, and the bytes hold it
+unfoldable pub is_written : ℕ → List ℕ → ℕ → List ℕ → Bool
+is_written n text fill bytes = eqb n (length text) && holds text fill bytes
+
+-- ---- how many records agree
+-- one record more; the sums are modulo 2^64
+unfoldable pub counted : Tally → Bool → Tally
+counted t agrees = record { agree = cond agrees ((t.agree + 1) % 2 ^ 64) t.agree; records = (t.records + 1) % 2 ^ 64 }

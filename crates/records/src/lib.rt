@@ -1,4 +1,4 @@
-// Lists of records, each with an input and the answer that it should have, and the comparison of an answer with lent bytes.
+// Lists of records, each with an input and the answer that it should have, the comparison of an answer with lent bytes, and how many agree.
 //
 // A record is a head, an input and an answer, one after the other. The head is a line of 45 bytes: four decimal numbers, each right-justified with blanks in 11
 // columns, and a line feed. They are the record's kind, the room that is lent, the number of bytes of the input and that of the answer.
@@ -6,6 +6,8 @@
 
 ghost use Rattle.std.specs.Prelude.{◌≡◌, ◌≤◌, length, get_or};
 ghost use Rattle.records.specs.Records as Spec;
+
+use std::num::wrapping_add_u64;
 
 // A record: its kind, the room that is lent, and the places of the list where its input, its answer and what comes after it begin.
 #[derive(Clone, Copy)]
@@ -68,9 +70,41 @@ fn byte_at(text: &[u8], i: usize, fill: u8) -> u8
 pub fn holds(bytes: &[u8], text: &[u8], fill: u8) -> bool
     ensures { result ≡ Spec.holds text.now fill bytes.now }
 {
-    let mut same = true;
-    for (i, byte) in bytes.iter().enumerate() {
-        same &= *byte == byte_at(text, i, fill);
+    bytes
+        .iter()
+        .enumerate()
+        .all(|(i, byte)| *byte == byte_at(text, i, fill))
+}
+
+// Whether a call that answers so many bytes wrote just this text into bytes that were lent with `fill` in each.
+pub fn is_written(n: usize, bytes: &[u8], text: &[u8], fill: u8) -> bool
+    ensures { result ≡ Spec.is_written n text.now fill bytes.now }
+{
+    let kept = holds(bytes, text, fill);
+    (n == text.len()) & kept
+}
+
+// How many records agree, of how many. The sums wrap, so that no bound on them has to be shown.
+#[derive(Clone, Copy)]
+pub struct Tally {
+    pub agree: u64,
+    pub records: u64,
+}
+
+impl Tally {
+    // One record more, which agrees or does not.
+    #[tactic(auto, unfolding(crate::specs::Records::counted))]
+    pub fn counted(self, agrees: bool) -> Tally
+        ensures { result ≡ Spec.counted self agrees }
+    {
+        let records = wrapping_add_u64(self.records, 1);
+        if agrees {
+            let agree = wrapping_add_u64(self.agree, 1);
+            return Tally { agree, records };
+        }
+        Tally {
+            agree: self.agree,
+            records,
+        }
     }
-    same
 }

@@ -10,9 +10,9 @@ mod queries;
 mod sheets;
 
 use one_record::Outcome;
+use records::Tally;
 use std::io;
 use std::io::Read;
-use std::num::wrapping_add_u64;
 
 // Room for the longest record: 45 bytes, 8,759 numbers of ten digits with a blank after each, and a sheet of 7,470 bytes.
 const ROOM: usize = 131072;
@@ -20,75 +20,39 @@ const ROOM: usize = 131072;
 // More records than any list has.
 const MOST: u32 = 100000;
 
-// How many records agree, of how many, and whether there may be more. The sums wrap, so that no bound on them has to be shown.
-#[derive(Clone, Copy)]
-struct Tally {
-    agree: u64,
-    records: u64,
-    open: bool,
-}
-
-// Prints the number of a record that does not agree, and why.
-fn complain(rt: &impl Print, record: u64, why: &str) -> io::Result<()> {
-    println!(rt; "record {record} {why}")
-}
-
-// Counts a record. Where one is broken, it is not known where the next begins.
-fn counted(rt: &impl Print, t: Tally, outcome: Outcome) -> io::Result<Tally> {
-    let agree = t.agree;
-    let records = wrapping_add_u64(t.records, 1);
+// Counts a record. Where it does not agree, its number and why are written.
+fn counted(rt: &impl Print, tally: Tally, outcome: Outcome) -> io::Result<Tally> {
+    let tally = tally.counted(outcome == Outcome::Agrees);
+    let record = tally.records;
     match outcome {
-        Outcome::NoRecord => Ok(Tally {
-            agree,
-            records: t.records,
-            open: false,
-        }),
-        Outcome::Agrees => Ok(Tally {
-            agree: wrapping_add_u64(agree, 1),
-            records,
-            open: true,
-        }),
-        Outcome::Differs => {
-            complain(rt, records, "differs")?;
-            Ok(Tally {
-                agree,
-                records,
-                open: true,
-            })
-        }
-        Outcome::Broken => {
-            complain(rt, records, "is broken")?;
-            Ok(Tally {
-                agree,
-                records,
-                open: false,
-            })
-        }
+        Outcome::Agrees => {}
+        Outcome::Differs => println!(rt; "record {record} differs")?,
+        Outcome::Broken => println!(rt; "record {record} is broken")?,
     }
+    Ok(tally)
 }
 
-// All records, up to the end of the input or the first broken one. Each is read into the buffer.
+// All records, up to the end of the input or the first broken one, after which it is not known where the next begins. Each is read into the buffer.
 fn replay<R: Read>(rt: &impl Print, input: &mut R, buffer: &mut [u8]) -> io::Result<Tally> {
-    let mut t = Tally {
+    let mut tally = Tally {
         agree: 0,
         records: 0,
-        open: true,
     };
     for _ in 0..MOST {
-        if !t.open {
-            return Ok(t);
+        let Some(outcome) = one_record::next(input, buffer)? else {
+            return Ok(tally);
+        };
+        tally = counted(rt, tally, outcome)?;
+        if outcome == Outcome::Broken {
+            return Ok(tally);
         }
-        let outcome = one_record::next(input, buffer)?;
-        t = counted(rt, t, outcome)?;
     }
-    Ok(t)
+    println!(rt; "there are more records than are read")?;
+    Ok(tally)
 }
 
 fn main(rt: HostRuntime) -> io::Result<()> {
     let mut buffer = [0u8; ROOM];
-    let t = replay(&rt, &mut rt.stdin(), &mut buffer)?;
-    if t.open {
-        println!(rt; "there are more records than are read")?;
-    }
-    println!(rt; "{} of {} agree", t.agree, t.records)
+    let tally = replay(&rt, &mut rt.stdin(), &mut buffer)?;
+    println!(rt; "{} of {} agree", tally.agree, tally.records)
 }

@@ -6,10 +6,9 @@ use records::Record;
 use std::io;
 use std::io::Read;
 
-// What becomes of a record: there is none, the answer is the same or another, or it is not in the form of a record.
-#[derive(Clone, Copy)]
+// What becomes of a record: the answer is the same or another, or it is not in the form of a record.
+#[derive(Clone, Copy, PartialEq, Eq)]
 pub(crate) enum Outcome {
-    NoRecord,
     Agrees,
     Differs,
     Broken,
@@ -42,20 +41,21 @@ fn rest<R: Read>(input: &mut R, buffer: &mut [u8], r: Record) -> io::Result<Outc
     Ok(compared(r.kind, r.lent, &buffer[from..answer], &buffer[answer..next]))
 }
 
-// The next record of the input. Its head tells where in the buffer the rest goes.
-pub(crate) fn next<R: Read>(input: &mut R, buffer: &mut [u8]) -> io::Result<Outcome> {
+// The next record of the input, if there is one. Its head tells where in the buffer the rest goes.
+pub(crate) fn next<R: Read>(input: &mut R, buffer: &mut [u8]) -> io::Result<Option<Outcome>> {
     if buffer.len() < 45 {
-        return Ok(Outcome::Broken);
+        return Ok(Some(Outcome::Broken));
     }
     let n = intake::read_text(input, &mut buffer[..45])?;
     if n == 0 {
-        return Ok(Outcome::NoRecord);
+        return Ok(None);
     }
     if n < 45 {
-        return Ok(Outcome::Broken);
+        return Ok(Some(Outcome::Broken));
     }
-    match records::record_at(buffer, 0) {
-        Some(r) => rest(input, buffer, r),
-        None => Ok(Outcome::Broken),
-    }
+    let outcome = match records::record_at(buffer, 0) {
+        Some(r) => rest(input, buffer, r)?,
+        None => Outcome::Broken,
+    };
+    Ok(Some(outcome))
 }

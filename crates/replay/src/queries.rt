@@ -15,12 +15,7 @@ fn pattern_at(patterns: &[u32], i: usize) -> u32 {
 
 // Whether the list begins with these patterns, and goes on as it was lent. Of a NaN only that it is one is compared: `bits` gives every NaN one pattern.
 fn holds(list: &[f32], patterns: &[u32]) -> bool {
-    for (i, x) in list.iter().enumerate() {
-        if bits(*x) != bits(from_bits(pattern_at(patterns, i))) {
-            return false;
-        }
-    }
-    true
+    list.iter().enumerate().all(|(i, x)| bits(*x) == bits(from_bits(pattern_at(patterns, i))))
 }
 
 // Whether the call gives these candidates and this refusal, 0 for none, and all other places are kept.

@@ -18,9 +18,8 @@ pub(crate) fn agrees(input: &[u8], lent: usize, answer: &[u8]) -> bool {
     }
     let mut bytes = [FILL; MOST];
     let reply = desk::judge(input, &mut bytes[..lent]);
-    let kept = records::holds(&bytes, answer, FILL);
     match reply {
-        Reply::Answer(n) => kept & (n == answer.len()) & (n >= LINE),
-        Reply::Told(n) => kept & (n == answer.len()) & (n < LINE),
+        Reply::Answer(n) => records::is_written(n, &bytes, answer, FILL) & (n >= LINE),
+        Reply::Told(n) => records::is_written(n, &bytes, answer, FILL) & (n < LINE),
     }
 }

@@ -1,8 +1,7 @@
 -- By what the byte is, and by what is known before it.
 use Rattle.std.proofs.Common.{◌≡◌, ℕ, Bool, sym, ◌∙◌}
-use borrow.Author.Tests.{le-leb, lt-leb}
 use Rattle.numbers.specs.Numbers.{is_digit}
-use Rattle.numbers.specs.Walk.{kind_of, with_digit}
+use Rattle.numbers.specs.Walk.{kind_of}
 use Rattle.numbers.proofs.after_byte.Goals as goal
 
 -- the library's test is that of the definition
@@ -21,17 +20,9 @@ pub returns-then-is_digit-clause-value : goal.returns-then-is_digit-clause-value
 unfolding kind_of
 returns-then-is_digit-clause-value c = simp (c.if-b.false, digit c.args.b c.is_ascii_digit-is_digit.ensures.value c.if-is_digit.true, c.in-Closed.is, c.in-Ok.is)
 
-pub returns-then-w-gt4294967295-clause-value : goal.returns-then-w-gt4294967295-clause-value
-unfolding kind_of with_digit
-returns-then-w-gt4294967295-clause-value c = simp (c.if-b.false, digit c.args.b c.is_ascii_digit-is_digit.ensures.value c.if-is_digit-2.true, c.in-Open.is, lt-leb _ _ c.if-w-gt4294967295.true)
-
-pub returns-then-w-gt4294967295-clause-numbers_after : goal.returns-then-w-gt4294967295-clause-numbers_after
-unfolding kind_of
-returns-then-w-gt4294967295-clause-numbers_after c = simp (c.if-b.false, digit c.args.b c.is_ascii_digit-is_digit.ensures.value c.if-is_digit-2.true)
-
 pub returns-then-is_digit-2-clause-value : goal.returns-then-is_digit-2-clause-value
-unfolding kind_of with_digit
-returns-then-is_digit-2-clause-value c = simp (c.if-b.false, digit c.args.b c.is_ascii_digit-is_digit.ensures.value c.if-is_digit-2.true, c.in-Open.is, le-leb _ _ c.if-w-gt4294967295.false)
+unfolding kind_of
+returns-then-is_digit-2-clause-value c = simp (c.if-b.false, digit c.args.b c.is_ascii_digit-is_digit.ensures.value c.if-is_digit-2.true, c.in-Open.is, c.with_digit.ensures)
 
 pub returns-then-is_digit-2-clause-numbers_after : goal.returns-then-is_digit-2-clause-numbers_after
 unfolding kind_of
