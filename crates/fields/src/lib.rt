@@ -72,7 +72,8 @@ pub fn line_at(text: &[u8], i: usize) -> Option<Row>
     let side = value_at(text, at + 11)?;
     let number = value_at(text, at + 22)?;
     let value = value_at(text, at + 33)?;
-    if text[at + 44] != 10 {
+    let is_ended = text[at + 44] == b'\n';
+    if !is_ended {
         return None;
     }
     Some(Row {

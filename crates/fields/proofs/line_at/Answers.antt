@@ -26,12 +26,12 @@ returns-in_err-value c =
     c.from_residual-in_err-value.ensures
     ∙ line_told c.args.text.now c.args.i _ _ _ _ _ (omega (arith, c.if-i-text.false)) c.in_ok-kind.ensures c.in_ok-side.ensures c.in_ok-number.ensures c.in_err-value.ensures refl
 
-pub returns-then-text-at-ne10 : goal.returns-then-text-at-ne10
-returns-then-text-at-ne10 c =
+pub returns-then-not-is_ended : goal.returns-then-not-is_ended
+returns-then-not-is_ended c =
     line_told c.args.text.now c.args.i _ _ _ _ _ (omega (arith, c.if-i-text.false)) c.in_ok-kind.ensures c.in_ok-side.ensures c.in_ok-number.ensures c.in_ok-value.ensures
-    (ne_eqb _ 10 c.if-text-at-ne10.true)
+    (ne_eqb _ 10 c.if-not-is_ended.true)
 
 pub returns : goal.returns
 returns c =
     line_told c.args.text.now c.args.i _ _ _ _ _ (omega (arith, c.if-i-text.false)) c.in_ok-kind.ensures c.in_ok-side.ensures c.in_ok-number.ensures c.in_ok-value.ensures
-    (eq-eqb _ 10 c.if-text-at-ne10.false)
+    (eq-eqb _ 10 c.if-not-is_ended.false)
