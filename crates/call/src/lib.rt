@@ -2,6 +2,7 @@
 #![tactic(auto)]
 
 ghost use Rattle.std.specs.Prelude.{◌≡◌, length};
+ghost use Rattle.refusal.specs.Refusal.{refusal_numbered};
 ghost use Rattle.sheet.specs.Rows.{rows_of};
 ghost use Rattle.coach.specs.Coach.{sentence_answer, sentence_after, sentences_answer, sentences_after};
 ghost use Rattle.call.specs.Call as Spec;
@@ -47,6 +48,23 @@ pub fn write_sheet(
     sheet::write_decision(d, sheet)
 }
 
+// The refusal with a number.
+fn numbered(number: u8) -> Refusal
+    ensures { result ≡ refusal_numbered number }
+{
+    match number {
+        1 => Refusal::Field,
+        2 => Refusal::Pose,
+        3 => Refusal::Ball,
+        4 => Refusal::Number,
+        5 => Refusal::Distance,
+        6 => Refusal::ListRoom,
+        7 => Refusal::SheetRoom,
+        8 => Refusal::TextRoom,
+        _ => Refusal::Display,
+    }
+}
+
 // Writes the coach's line on the player of a side with a number at the front of the lent text; the bytes after it are kept. Answers the line's length, 0 for a player that stands
 // legally. A refusal, 1 to 5 and then 8, keeps every byte.
 pub fn write_sentence(
@@ -59,9 +77,8 @@ pub fn write_sentence(
     ensures value { result ≡ sentence_answer s earlier.entry.xs.now earlier.entry.ys.now side number (length text.old) }
     ensures text_after { text.new ≡ sentence_after s earlier.entry.xs.now earlier.entry.ys.now side number text.old }
 {
-    let own = refusals::refusal(s, earlier);
-    coach::with_number(own, number)?;
-    coach::write_sentence(s, side, number, text)
+    let own = refusal::number_in(refusals::refusal(s, earlier));
+    coach::write_sentence(own, s, side, number, text).map_err(numbered)
 }
 
 // Writes the coach's lines on all players of a situation that do not stand legally at the front of the lent bytes, in the order of the sheet, each with a line feed; the bytes
@@ -74,7 +91,6 @@ pub fn write_sentences(
     ensures value { result ≡ sentences_answer s earlier.entry.xs.now earlier.entry.ys.now (length text.old) }
     ensures text_after { text.new ≡ sentences_after s earlier.entry.xs.now earlier.entry.ys.now text.old }
 {
-    let refused = refusals::refusal(s, earlier);
-    refused?;
-    coach::write_sentences(s, text)
+    let own = refusal::number_in(refusals::refusal(s, earlier));
+    coach::write_sentences(own, s, text).map_err(numbered)
 }

@@ -1,5 +1,5 @@
 -- The coach's calls: the line on one player, or those on all that do not stand legally, by the first refusal of a list or the text. Definitions only.
-use Rattle.std.specs.Prelude.{not, ◌&&◌, ◌||◌, cond, Result, List, [], ◌∷◌, ◌++◌, ℕ, eqb, leb, Float, length, take, drop, get_or}
+use Rattle.std.specs.Prelude.{not, ◌&&◌, ◌||◌, cond, Result, Ok, Err, List, [], ◌∷◌, ◌++◌, ℕ, eqb, leb, Float, length, take, drop, get_or}
 use Rattle.lists.specs.Gather.{flat_to}
 use Rattle.lists.specs.Put.{fronted, fronted_into}
 use Rattle.lists.specs.Refusals.{Requirement, first_refusal}
@@ -12,7 +12,7 @@ use Rattle.conditions.specs.Conditions.{verdict_of, is_some}
 use Rattle.conditions.specs.declared.Condition.{Condition}
 use Rattle.conditions.specs.declared.Condition.TheVariants.{NoCondition}
 use Rattle.positioning.specs.Positioning.{condition_of, team_conditions}
-use Rattle.refusal.specs.Refusal.{refused}
+use Rattle.refusal.specs.Refusal.{number_of}
 use Rattle.refusal.specs.declared.Refusal.{Refusal}
 use Rattle.refusals.specs.Refusals.{is_player_number, requirements_of}
 use Rattle.sentences.specs.Sentences.{line_of}
@@ -84,7 +84,7 @@ sentences_answer s xs ys lent = answered (first_refusal (all_requirements s xs y
 unfoldable pub sentences_after : Situation → List Float → List Float → List ℕ → List ℕ
 sentences_after s xs ys text = cond (eqb (first_refusal (all_requirements s xs ys (length text))) 0) (fronted (sentences_of s) text) text
 
--- ---- where the first refusal but 8 is known
+-- ---- where the first refusal but 8 is known, by its number
 -- 8, or the length of a text
 abbrev pub line_answer : List ℕ → ℕ → Result ℕ Refusal
 line_answer text lent = answered (first_refusal (room_for text lent ∷ [])) (length text)
@@ -93,9 +93,14 @@ line_answer text lent = answered (first_refusal (room_for text lent ∷ [])) (le
 abbrev pub with_number : ℕ → ℕ → ℕ
 with_number refusal n = cond ((eqb refusal 0 || eqb refusal 5) && not (is_player_number n)) 4 refusal
 
+-- an answer by the number of its refusal
+abbrev pub by_number : Result ℕ Refusal → Result ℕ ℕ
+by_number (Ok n) = Ok n
+by_number (Err r) = Err (number_of r)
+
 -- it, 8, or the length of a text
-unfoldable pub text_answer : ℕ → List ℕ → ℕ → Result ℕ Refusal
-text_answer refusal text lent = cond (eqb refusal 0) (line_answer text lent) (refused refusal)
+unfoldable pub text_answer : ℕ → List ℕ → ℕ → Result ℕ ℕ
+text_answer refusal text lent = cond (eqb refusal 0) (by_number (line_answer text lent)) (Err refusal)
 
 -- a refusal keeps every byte; else the text and after it the bytes that were there
 unfoldable pub text_after : ℕ → List ℕ → List ℕ → List ℕ

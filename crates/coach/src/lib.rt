@@ -4,7 +4,6 @@
 ghost use Rattle.std.specs.Prelude.{◌≡◌, ◌||◌, ◌+◌, ◌≤◌, eqb, length};
 ghost use Rattle.lists.specs.Put.{fronted_into};
 ghost use Rattle.lines.specs.Over.{over};
-ghost use Rattle.refusal.specs.Refusal.{unless_refused, number_in};
 ghost use Rattle.coach.specs.Coach as Spec;
 
 use conditions::Condition;
@@ -41,42 +40,47 @@ fn sentence(side: Side, number: u8, condition: Condition, text: &mut [u8]) -> Re
     sentences::coach_line(side, number, verdict, condition, text).ok_or(Refusal::TextRoom)
 }
 
-// Whether a refusal of the number that is asked for comes before what is told of the situation.
-fn comes_after_number(own: Result<(), Refusal>) -> bool
-    ensures { result ≡ (eqb (number_in own) 0 || eqb (number_in own) 5) }
+// Whether the number that is asked for is refused before what the situation is refused for, by the number of that refusal, 0 for none.
+fn comes_after_number(own: u8) -> bool
+    ensures { result ≡ (eqb own 0 || eqb own 5) }
 {
-    matches!(own, Ok(()) | Err(Refusal::Distance))
+    matches!(own, 0 | 5)
 }
 
-// The first refusal of a situation with the number that is asked for: that of it comes before the distance.
-pub fn with_number(own: Result<(), Refusal>, number: u32) -> Result<(), Refusal>
-    ensures { result ≡ unless_refused (Spec.with_number (number_in own) number) tt }
+// The number of a situation's first refusal, 0 for none, with the number that is asked for: 4 of that comes before 5.
+fn with_number(own: u8, number: u32) -> u8
+    ensures { result ≡ Spec.with_number own number }
 {
     let numbered = (game::MIN as u32 <= number) & (number <= game::MAX as u32);
     if comes_after_number(own) & !numbered {
-        return Err(Refusal::Number);
+        return refusal::number_of(Refusal::Number);
     }
     own
 }
 
-// Writes the line on one player of a situation at the front of the lent text; the bytes after it are kept. Answers the line's length, 0 for a player that stands legally. A refusal,
-// of the number and then of the text, keeps every byte.
+// Writes the line on one player of a situation, of which the first refusal is handed in, at the front of the lent text; the bytes after it are kept. Answers the line's length, 0 for
+// a player that stands legally. A refusal, that or 4 of the number, and then 8, keeps every byte.
+// Refusals go by their numbers here, since any number may be handed in: an enum would take fewer.
 #[tactic(auto, unfolding(crate::specs::Coach::sentence_of))]
 pub fn write_sentence(
+    own: u8,
     s: Situation,
     side: Side,
     number: u32,
     text: &mut [u8],
-) -> Result<usize, Refusal>
-    ensures value { result ≡ Spec.text_answer (Spec.with_number 0 number) (Spec.sentence_of s side number) (length text.old) }
-    ensures text_after { text.new ≡ Spec.text_after (Spec.with_number 0 number) (Spec.sentence_of s side number) text.old }
+) -> Result<usize, u8>
+    ensures value { result ≡ Spec.text_answer (Spec.with_number own number) (Spec.sentence_of s side number) (length text.old) }
+    ensures text_after { text.new ≡ Spec.text_after (Spec.with_number own number) (Spec.sentence_of s side number) text.old }
 {
-    with_number(Ok(()), number)?;
+    let refused = with_number(own, number);
+    if refused != 0 {
+        return Err(refused);
+    }
     let conditions = side_conditions(s, side);
     let i = (number - 1) as usize;
     let condition = conditions[i];
     let n = number as u8;
-    sentence(side, n, condition, text)
+    sentence(side, n, condition, text).map_err(refusal::number_of)
 }
 
 // Writes the line of a player's condition, with a line feed after it, over the bytes from a place on, and answers the place after it.
@@ -116,19 +120,23 @@ fn side_sentences(side: Side, conditions: [Condition; 20], lines: &mut [u8], at:
     next
 }
 
-// Writes the lines on all players of a situation that do not stand legally at the front of the lent text, in the order of the sheet, each with a line feed; the bytes after them are
-// kept. A refusal, of the text, keeps every byte.
-pub fn write_sentences(s: Situation, text: &mut [u8]) -> Result<usize, Refusal>
-    ensures value { result ≡ Spec.line_answer (Spec.sentences_of s) (length text.old) }
-    ensures text_after { text.new ≡ fronted_into (Spec.sentences_of s) text.old }
+// Writes the lines on all players of a situation, of which the first refusal is handed in, that do not stand legally at the front of the lent text, in the order of the sheet,
+// each with a line feed; the bytes after them are kept. A refusal, that and then 8, keeps every byte.
+pub fn write_sentences(own: u8, s: Situation, text: &mut [u8]) -> Result<usize, u8>
+    ensures value { result ≡ Spec.text_answer own (Spec.sentences_of s) (length text.old) }
+    ensures text_after { text.new ≡ Spec.text_after own (Spec.sentences_of s) text.old }
 {
+    let refused = own != 0;
+    if refused {
+        return Err(own);
+    }
     let home = side_conditions(s, Side::Home);
     let away = side_conditions(s, Side::Away);
     let mut lines = [0u8; ROOM];
     let middle = side_sentences(Side::Home, home, &mut lines, 0);
     let end = side_sentences(Side::Away, away, &mut lines, middle);
     if text.len() < end {
-        return Err(Refusal::TextRoom);
+        return Err(refusal::number_of(Refusal::TextRoom));
     }
     text[..end].copy_from_slice(&lines[..end]);
     Ok(end)

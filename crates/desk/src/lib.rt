@@ -1,7 +1,7 @@
 // What the program `judge` prints for what it reads: a sheet, the coach's lines, the items of a sheet, a refusal, or what is wrong with the input.
 #![tactic(auto)]
 
-ghost use Rattle.std.specs.Prelude.{◌≡◌, ◌+◌, ◌≤◌, Ok, length};
+ghost use Rattle.std.specs.Prelude.{◌≡◌, ◌+◌, ◌≤◌, [], Ok, length};
 ghost use Rattle.text.specs.Pushed.{pushed};
 ghost use Rattle.input.specs.Input.{most_places, numbers_for};
 ghost use Rattle.reading.specs.Reading.{items_in, sheet_read};
@@ -142,17 +142,16 @@ fn push_found(lines: &mut Text<ITEMS>, found: Result<Option<Item>, NoSheet>)
     }
 }
 
-// The lines of all items of a sheet.
-fn lines_of(text: &[u8], count: usize) -> Text<ITEMS>
-    requires { Ok count ≡ sheet_read text.now }
-    ensures { result ≡ Spec.item_lines (items_in text.now) }
+// The same of all items of a sheet, of which there are so many. The text is lent, since handing it out by value copies its room.
+fn push_items(lines: &mut Text<ITEMS>, text: &[u8], count: usize)
+    requires empty { lines.old ≡ [] }
+    requires counted { Ok count ≡ sheet_read text.now }
+    ensures { lines.new ≡ Spec.item_lines (items_in text.now) }
 {
-    let mut lines = Text::<ITEMS>::new();
     for i in 0..count {
         let found = reading::read_item(text, i + 1);
-        push_found(&mut lines, found);
+        push_found(lines, found);
     }
-    lines
 }
 
 // Reads a sheet and writes a line for each of its items, or the line of a refusal, at the front of the lent bytes; the bytes after it are kept. Where these are too few for
@@ -165,7 +164,8 @@ pub fn read(text: &[u8], out: &mut [u8]) -> Reply
     match answer {
         Err(refusal) => Reply::Told(replies::refused_line(reading::number_of(refusal), out)),
         Ok(count) => {
-            let lines = lines_of(text, count);
+            let mut lines = Text::<ITEMS>::new();
+            push_items(&mut lines, text, count);
             Reply::Answer(replies::told(lines.as_bytes(), out))
         }
     }

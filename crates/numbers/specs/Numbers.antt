@@ -1,5 +1,5 @@
 -- Decimal numbers in a text of bytes, with blanks, tabs, line feeds or carriage returns between them. Definitions only.
-use Rattle.std.specs.Prelude.{Bool, true, false, ◌&&◌, ◌||◌, cond, Option, None, Some, Result, Ok, Err, List, [], ◌∷◌, ℕ, ◌+◌, ◌-◌, ◌*◌, eqb, leb, length, take}
+use Rattle.std.specs.Prelude.{Bool, true, false, ◌&&◌, ◌||◌, Result, Ok, Err, List, [], ◌∷◌, ℕ, ◌+◌, ◌-◌, ◌*◌, eqb, leb, length, take}
 use Rattle.lists.specs.Put.{fronted}
 use Rattle.numbers.specs.declared.Unread.{Unread}
 use Rattle.numbers.specs.declared.Unread.TheVariants.{NotANumber, TooLarge}
@@ -56,11 +56,6 @@ value_of f = value_from 0 f
 -- at most 2^32 - 1
 abbrev pub is_small : ℕ → Bool
 is_small v = leb v 4294967295
-
--- a value with one digit more, none where that is not small
-unfoldable pub with_digit : Option ℕ → ℕ → Option ℕ
-with_digit None d = None
-with_digit (Some v) d = cond (is_small (10 * v + d)) (Some (10 * v + d)) None
 
 -- digits, of a value that is at most 2^32 - 1
 abbrev pub is_number : List ℕ → Bool

@@ -1,10 +1,11 @@
 -- What the parts of the code tell each other. Definitions only: nothing here stands in the contract of an exported function.
-use Rattle.std.specs.Prelude.{cond, None, Some, Result, Ok, Err, List, ℕ, ◌+◌, ◌-◌, set}
+use Rattle.std.specs.Prelude.{cond, Result, Ok, Err, List, ℕ, ◌+◌, ◌-◌, ◌*◌}
+use Rattle.lists.specs.Put.{put_if}
 use Rattle.numbers.specs.declared.Progress.{Progress}
 use Rattle.numbers.specs.declared.Progress.TheVariants.{Closed, Open}
 use Rattle.numbers.specs.declared.Unread.{Unread}
 use Rattle.numbers.specs.declared.Unread.TheVariants.{NotANumber, TooLarge}
-use Rattle.numbers.specs.Numbers.{is_separator, is_digit, with_digit}
+use Rattle.numbers.specs.Numbers.{is_separator, is_digit, is_small}
 
 -- what a byte is; of a digit, its value
 pub data Kind : Type 0 where
@@ -16,29 +17,31 @@ pub data Kind : Type 0 where
 unfoldable pub kind_of : ℕ → Kind
 kind_of b = cond (is_separator b) Separator (cond (is_digit b) (Digit (b - 48)) Other)
 
+-- a value with one digit more, where 2^32 stands for every value that is too large
+unfoldable pub with_digit : ℕ → ℕ → ℕ
+with_digit v d = cond (is_small (10 * v + d)) (10 * v + d) 4294967296
+
 -- the reading where the field ends here
 abbrev pub ended : Progress → Result ℕ Unread
 ended (Closed r) = r
-ended (Open n None) = Err (TooLarge n)
-ended (Open n (Some v)) = Ok (n + 1)
+ended (Open n v) = cond (is_small v) (Ok (n + 1)) (Err (TooLarge n))
 
 -- and the buffer
 abbrev pub stored_at_end : Progress → List ℕ → List ℕ
 stored_at_end (Closed r) buffer = buffer
-stored_at_end (Open n None) buffer = buffer
-stored_at_end (Open n (Some v)) buffer = set buffer n v
+stored_at_end (Open n v) buffer = put_if (is_small v) buffer n v
 
 -- after a digit, which opens a field outside of one, unless there was a fault
 abbrev pub after_digit : Progress → ℕ → Progress
-after_digit (Closed (Ok n)) d = Open n (Some d)
+after_digit (Closed (Ok n)) d = Open n d
 after_digit (Closed (Err unread)) d = Closed (Err unread)
-after_digit (Open n value) d = Open n (with_digit value d)
+after_digit (Open n v) d = Open n (with_digit v d)
 
 -- after a byte that is neither a digit nor a separator: a fault of this field or of the next, unless there was one
 abbrev pub after_other : Progress → Result ℕ Unread
 after_other (Closed (Ok n)) = Err (NotANumber n)
 after_other (Closed (Err unread)) = Err unread
-after_other (Open n value) = Err (NotANumber n)
+after_other (Open n v) = Err (NotANumber n)
 
 -- after a byte
 abbrev pub after_byte : Kind → Progress → Progress
@@ -62,4 +65,9 @@ field_of (Err (TooLarge k)) = k
 -- how many fields have begun
 abbrev pub begun : Progress → ℕ
 begun (Closed r) = field_of r
-begun (Open n value) = n + 1
+begun (Open n v) = n + 1
+
+-- the value of the open field
+abbrev pub open_value : Progress → ℕ
+open_value (Closed r) = 0
+open_value (Open n v) = v

@@ -12,21 +12,23 @@ pub enum Unread {
     TooLarge(usize),
 }
 
-// A value with one digit more, none from 2^32 on.
-#[tactic(auto, unfolding(crate::specs::Numbers::with_digit))]
-fn with_digit(value: Option<u32>, digit: u8) -> Option<u32>
-    ensures { result ≡ Spec.with_digit value digit }
+// What stands for every value that is too large. A number in place of None: with an Option of a u32 the texts of situations were read in 1.4 times the instructions.
+const TOO_LARGE: u64 = 4294967296;
+
+// A value with one digit more.
+fn with_digit(value: u64, digit: u8) -> u64
+    requires { value ≤ 4294967296 }
+    ensures { result ≡ Walk.with_digit value digit }
 {
-    let v = value?;
-    u32::try_from(10 * v as u64 + digit as u64).ok()
+    (10 * value + digit as u64).min(TOO_LARGE)
 }
 
 // What is known after some bytes. Outside of a field, and wherever there was a fault: what `read_numbers` answers for them.
-// In a field of digits: how many numbers come before it, and its value so far, none where it is too large.
+// In a field of digits: how many numbers come before it, and its value so far.
 #[derive(Clone, Copy)]
 enum Progress {
     Closed(Result<usize, Unread>),
-    Open(usize, Option<u32>),
+    Open(usize, u64),
 }
 
 // Ends the open field, if there is one: a number is stored, if the list has a place for it.
@@ -37,21 +39,21 @@ fn end_field(progress: Progress, numbers: &mut [u32]) -> Result<usize, Unread>
 {
     match progress {
         Progress::Closed(reading) => reading,
-        Progress::Open(n, value) => match value {
-            None => Err(Unread::TooLarge(n)),
-            Some(v) => {
-                if n < numbers.len() {
-                    numbers[n] = v;
-                }
-                Ok(n + 1)
+        Progress::Open(n, v) => {
+            if v > 4294967295 {
+                return Err(Unread::TooLarge(n));
             }
-        },
+            if n < numbers.len() {
+                numbers[n] = v as u32;
+            }
+            Ok(n + 1)
+        }
     }
 }
 
 // One byte on. After a fault nothing changes.
 fn after_byte(progress: Progress, b: u8, numbers: &mut [u32]) -> Progress
-    requires { Walk.begun progress < 18446744073709551615 }
+    requires { (Walk.begun progress < 18446744073709551615) × (Walk.open_value progress ≤ 4294967296) }
     ensures value { result ≡ Walk.after_byte (Walk.kind_of b) progress }
     ensures numbers_after { numbers.new ≡ Walk.stored_by_byte (Walk.kind_of b) progress numbers.old }
 {
@@ -63,7 +65,7 @@ fn after_byte(progress: Progress, b: u8, numbers: &mut [u32]) -> Progress
         Progress::Closed(reading) => match reading {
             Ok(n) => {
                 if is_digit {
-                    return Progress::Open(n, Some((b - b'0') as u32));
+                    return Progress::Open(n, (b - b'0') as u64);
                 }
                 Progress::Closed(Err(Unread::NotANumber(n)))
             }

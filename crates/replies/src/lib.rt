@@ -132,11 +132,11 @@ pub fn refused_line(refusal: u8, out: &mut [u8]) -> usize
     ensures value { result ≡ Spec.written_in (Spec.refused_line refusal) out.old }
     ensures out_after { out.new ≡ Spec.line_in (Spec.refused_line refusal) out.old }
 {
-    let mut line = Text::<LINE>::new();
-    line.push(b"refused ");
-    line.push_number(refusal as u64);
-    line.push(b"\n");
-    told(line.as_bytes(), out)
+    let mut reply = Text::<LINE>::new();
+    reply.push(b"refused ");
+    reply.push_number(refusal as u64);
+    reply.push(b"\n");
+    told(reply.as_bytes(), out)
 }
 
 // The first n bytes of a text, all of it where it has fewer.

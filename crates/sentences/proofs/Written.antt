@@ -5,7 +5,7 @@ use Prim.Native.Nat.{ℕ, ◌-◌, ◌≤◌, ◌<◌}
 use native.Mathlib.Nat.{zero-add}
 use borrow.Author.Tests.{lt-ltb, le-ltb}
 use lib.ListN.{length, take, drop}
-use lib.Seq.{take-length}
+use lib.Seq.{take_at, take-length}
 use Rattle.std.specs.Prelude.{None, Some}
 use Rattle.lists.specs.Put.{fronted, fronted_into}
 use Rattle.lists.proofs.Fronted.{into_short, into_fits}
@@ -29,6 +29,10 @@ pub written_length : (text s : List ℕ) → length text ≤ length s → writte
 unfolding written
 written_length text s h = simp (le-ltb (length s) (length text) h)
 
--- where there is, and the text is written
-pub text_fits : (text s cur : List ℕ) (n : ℕ) → length text ≤ length s → Stage 0 s text cur n → (Some n ≡ written text s) × (cur ≡ fronted_into text s)
-text_fits text s cur n h e = (ap Some (e.end ∙ zero-add (length text)) ∙ sym (written_length text s h), e.written ∙ over_front text s ∙ sym (into_fits text s h))
+-- where there is, and the text was written at the front of a list and copied from there
+pub text_stored : (text z cur s part : List ℕ) (n : ℕ) → length text ≤ length s → Stage 0 z text cur n → part ≡ take n cur → (Some n ≡ written text s) × (part ++ drop n s ≡ fronted_into text s)
+unfolding fronted
+text_stored text z cur s part n h e p =
+    let far : n ≡ length text = e.end ∙ zero-add (length text) in
+    let front : take n cur ≡ text = ap (take n) (e.written ∙ over_front text z) ∙ take_at text (drop (length text) z) n (sym far) in
+    (ap Some far ∙ sym (written_length text s h), ap (λ (t : List ℕ). t ++ drop n s) (p ∙ front) ∙ ap (λ (k : ℕ). text ++ drop k s) far ∙ sym (into_fits text s h))

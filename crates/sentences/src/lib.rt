@@ -12,6 +12,9 @@ use game::{Positioning, Side};
 // The length of the longest line of a number from 1 to 20.
 pub const LONGEST: usize = 74;
 
+// Room for every line.
+const ROOM: usize = 80;
+
 // A side's word.
 #[tactic(auto, unfolding(crate::specs::Sentences::side_word))]
 fn side_word(side: Side) -> &'static [u8]
@@ -112,13 +115,17 @@ pub fn coach_line(
     let tens = b'0' + number / 10 % 10;
     let ones = b'0' + number % 10;
     let digits = [tens, ones];
-    let after_side = put(text, 0, s);
-    let number_place = put(text, after_side, b" ");
-    let after_number = put(text, number_place, &digits[2 - count..]);
-    let verdict_place = put(text, after_number, b" ");
-    let after_verdict = put(text, verdict_place, v);
-    let condition_place = put(text, after_verdict, b": ");
-    Some(put(text, condition_place, c))
+    // Made here and then copied: words that are copied right to the lent bytes, which may lie anywhere, are copied by `memmove`, for which the archive would have to ask.
+    let mut line = [0u8; ROOM];
+    let after_side = put(&mut line, 0, s);
+    let number_place = put(&mut line, after_side, b" ");
+    let after_number = put(&mut line, number_place, &digits[2 - count..]);
+    let verdict_place = put(&mut line, after_number, b" ");
+    let after_verdict = put(&mut line, verdict_place, v);
+    let condition_place = put(&mut line, after_verdict, b": ");
+    let end = put(&mut line, condition_place, c);
+    text[..end].copy_from_slice(&line[..end]);
+    Some(end)
 }
 
 // The constant, proved to be the length that `LongestClaim` speaks of.

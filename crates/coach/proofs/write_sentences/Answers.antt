@@ -1,7 +1,10 @@
 -- The lines of both sides are written one after the other, and then copied where they have room.
-use Rattle.std.proofs.Common.{◌≤◌, ℕ, length, replicate, arith, sym, ◌∙◌}
+use Rattle.std.proofs.Common.{◌≤◌, ℕ, length, replicate, arith, Ok, Err, ap, sym, ◌∙◌}
 use Rattle.std.proofs.lemmas.List.{length-replicate, length-take-le}
 use Rattle.game.specs.declared.Side.TheVariants.{Home, Away}
+use Rattle.refusal.specs.declared.Refusal.TheVariants.{TextRoom}
+use Rattle.coach.specs.Coach.{sentences_of}
+use Rattle.coach.proofs.Answers.{text_refused, text_told}
 use Rattle.coach.proofs.Lines.{side_few, all_written, all_short_holds, all_stored}
 use Rattle.coach.proofs.write_sentences.Goals as goal
 
@@ -12,7 +15,13 @@ returns-then-text-end c =
     let all = all_written c.args.s _ _ c.side_conditions-home.ensures c.side_conditions-away.ensures (replicate 3000 0) _ _ first.result second.result (length-replicate {A = ℕ} 3000 0) first.ensures.lines_after first.ensures.value first.auto.lines
     second.ensures.lines_after second.ensures.value second.auto.lines in
     let text = all_short_holds c.args.s _ second.result all c.args.text.now c.if-text-end.true in
-    record { value = text.0; text_after = text.1 }
+    let r = text_told c.args.own (sentences_of c.args.s) c.args.text.now (Err TextRoom) c.args.text.now c.if-refused.false text.0 text.1 in
+    record { value = ap Err c.number_of.ensures ∙ r.0; text_after = r.1 }
+
+pub returns-then-refused : goal.returns-then-refused
+returns-then-refused c =
+    let r = text_refused c.args.own (sentences_of c.args.s) c.args.text.now c.if-refused.true in
+    record { value = r.0; text_after = r.1 }
 
 pub side_sentences-end-requires : goal.side_sentences-end-requires
 side_sentences-end-requires c =
@@ -39,4 +48,5 @@ returns c =
     let all = all_written c.args.s _ _ c.side_conditions-home.ensures c.side_conditions-away.ensures (replicate 3000 0) _ _ first.result second.result (length-replicate {A = ℕ} 3000 0) first.ensures.lines_after first.ensures.value first.auto.lines
     second.ensures.lines_after second.ensures.value second.auto.lines in
     let text = all_stored c.args.s _ second.result all c.args.text.now c.copy_from_slice.new.self c.if-text-end.false c.copy_from_slice.ensures.after in
-    record { value = text.0; text_after = text.1 }
+    let r = text_told c.args.own (sentences_of c.args.s) c.args.text.now (Ok second.result) _ c.if-refused.false text.0 text.1 in
+    record { value = r.0; text_after = r.1 }

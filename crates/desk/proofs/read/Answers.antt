@@ -14,7 +14,7 @@ returns-in-Err c =
 
 pub returns-in-Ok : goal.returns-in-Ok
 returns-in-Ok c =
-    let lines = c.as_bytes.ensures ∙ c.lines_of-lines.ensures in
+    let lines = c.as_bytes.ensures ∙ c.push_items.ensures in
     let p = prints_as _ _ c.args.out.now _ _ (read_lines c.args.text.now _ c.in-Ok.ensures).printed
     (answer_said _ c.args.out.now _ _ (c.told.ensures.value ∙ ap (λ (t : List ℕ). written_in t c.args.out.now) lines) (c.told.ensures.out_after ∙ ap (λ (t : List ℕ). line_in t c.args.out.now) lines)) in
     record { value = p.0; out_after = p.1 }

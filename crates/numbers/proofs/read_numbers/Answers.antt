@@ -12,7 +12,7 @@ loop-b-preserved c =
     let told = c.after_byte-progress.ensures in (
       rw told.value (omega (arith, begun_on (kind_of (get_or c.args.text.now c.loop-b.b-index 0)) c.loop-b.progress)),
       rw told.value (value_on _ c.loop-b.progress),
-      turn_on c.args.text.now c.loop-b.numbers c.after_byte-progress.new.numbers c.loop-b.progress c.after_byte-progress.result c.loop-b.b-index _ c.loop-b.invariant.1 c.loop-b-test.true c.loop-b.invariant.2 told.value
+      turn_on c.args.text.now c.loop-b.numbers c.after_byte-progress.new.numbers c.loop-b.progress c.after_byte-progress.result c.loop-b.b-index _ c.loop-b-test.true c.loop-b.invariant.2 told.value
           told.numbers_after,
     )
 
@@ -20,7 +20,7 @@ pub returns : goal.returns
 returns c =
     let told = c.end_field.ensures in
     let all =
-    all_read_holds c.args.text.now c.args.numbers.now c.loop-b.numbers c.end_field.new.numbers c.loop-b.progress c.end_field.result c.loop-b.b-index c.loop-b.invariant.1 c.loop-b-test.false c.loop-b.invariant.2
+    all_read_holds c.args.text.now c.args.numbers.now c.loop-b.numbers c.end_field.new.numbers c.loop-b.progress c.end_field.result c.loop-b.b-index c.loop-b-test.false c.loop-b.invariant.2
     told.value told.numbers_after
     in
     record { value = all.0; numbers_after = all.1 }
