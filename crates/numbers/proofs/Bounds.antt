@@ -45,7 +45,7 @@ begun_on Other (Closed (Err unread)) = omega arith
 begun_on Other (Open n v) = omega arith
 
 -- a value with one digit more is held
-held : (v d : ℕ) → with_digit v d ≤ 4294967296
+pub held : (v d : ℕ) → with_digit v d ≤ 4294967296
 unfolding with_digit
 held v d = go (is_small (10 * v + d)) refl
   where

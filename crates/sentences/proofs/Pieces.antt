@@ -17,7 +17,7 @@ use Rattle.game.specs.declared.Positioning.TheVariants.{Legal, Illegal, IllegalU
 use Rattle.conditions.specs.declared.Condition.{Condition}
 use Rattle.conditions.specs.declared.Condition.TheVariants.{NoCondition, OnCenterMark, OutsideCircle, InCircle, InOpponentHalf, InCenterCircle, OnPenaltyMark, BeyondPenaltyMark, InOpponentPenaltyArea, NearPenaltyMark, InOwnPenaltyArea, BehindOwnMark, NearOwnMark, NearBall, InGoalKickArea, InAreaOfBall}
 use Rattle.sentences.specs.Sentences.{side_word, verdict_words, condition_words, number_word, line_of, written}
-use Rattle.sentences.proofs.Written.{text_short, text_stored}
+use Rattle.sentences.proofs.Written.{text_short, text_fits, text_stored}
 
 -- ---- how long each is
 pub side_long : (side : Side) → length (side_word side) ≡ 4
@@ -91,8 +91,40 @@ module _ (side : Side) (n : ℕ) (verdict : Positioning) (condition : Condition)
   pub line_short : length s < length w + 1 + length d + 1 + length v + 2 + length c → (None ≡ written (line_of side n verdict condition) s) × (s ≡ fronted_into (line_of side n verdict condition) s)
   line_short h = text_short (line_of side n verdict condition) s (omega (arith, length_line))
 
+  -- the pieces over the front of a list, each where the one before it ended, are the line there
+  staged : (z : List ℕ) → length w + 1 + length d + 1 + length v + 2 + length c ≤ length z → (t1 t2 t3 t4 t5 t6 t7 : List ℕ) (n1 n2 n3 n4 n5 n6 n7 : ℕ)
+      → t1 ≡ over 0 w z → n1 ≡ 0 + length w → length t1 ≡ length z
+      → t2 ≡ over n1 (32 ∷ []) t1 → n2 ≡ n1 + 1 → length t2 ≡ length t1
+      → t3 ≡ over n2 d t2 → n3 ≡ n2 + length d → length t3 ≡ length t2
+      → t4 ≡ over n3 (32 ∷ []) t3 → n4 ≡ n3 + 1 → length t4 ≡ length t3
+      → t5 ≡ over n4 v t4 → n5 ≡ n4 + length v → length t5 ≡ length t4
+      → t6 ≡ over n5 (58 ∷ 32 ∷ []) t5 → n6 ≡ n5 + 2 → length t6 ≡ length t5
+      → t7 ≡ over n6 c t6 → n7 ≡ n6 + length c → length t7 ≡ length t6
+      → Stage 0 z (line_of side n verdict condition) t7 n7
+  staged z room t1 t2 t3 t4 t5 t6 t7 n1 n2 n3 n4 n5 n6 n7 e1 m1 l1 e2 m2 l2 e3 m3 l3 e4 m4 l4 e5 m5 l5 e6 m6 l6 e7 m7 l7 =
+      let a1 = stage_next w t1 n1 (stage_none 0 z) (omega arith) e1 m1 l1 in
+      let a2 = stage_next (32 ∷ []) t2 n2 a1 (omega arith) e2 m2 l2 in
+      let a3 = stage_next d t3 n3 a2 (omega arith) e3 m3 l3 in
+      let a4 = stage_next (32 ∷ []) t4 n4 a3 (omega arith) e4 m4 l4 in
+      let a5 = stage_next v t5 n5 a4 (omega arith) e5 m5 l5 in
+      let a6 = stage_next (58 ∷ 32 ∷ []) t6 n6 a5 (omega arith) e6 m6 l6 in
+      subst (λ (t : List ℕ). Stage 0 z t t7 n7) pieces_line (stage_next c t7 n7 a6 (omega arith) e7 m7 l7)
+
+  -- where there is, and the pieces are written
+  pub line_fits : length w + 1 + length d + 1 + length v + 2 + length c ≤ length s → (t1 t2 t3 t4 t5 t6 t7 : List ℕ) (n1 n2 n3 n4 n5 n6 n7 : ℕ)
+      → t1 ≡ over 0 w s → n1 ≡ 0 + length w → length t1 ≡ length s
+      → t2 ≡ over n1 (32 ∷ []) t1 → n2 ≡ n1 + 1 → length t2 ≡ length t1
+      → t3 ≡ over n2 d t2 → n3 ≡ n2 + length d → length t3 ≡ length t2
+      → t4 ≡ over n3 (32 ∷ []) t3 → n4 ≡ n3 + 1 → length t4 ≡ length t3
+      → t5 ≡ over n4 v t4 → n5 ≡ n4 + length v → length t5 ≡ length t4
+      → t6 ≡ over n5 (58 ∷ 32 ∷ []) t5 → n6 ≡ n5 + 2 → length t6 ≡ length t5
+      → t7 ≡ over n6 c t6 → n7 ≡ n6 + length c → length t7 ≡ length t6
+      → (Some n7 ≡ written (line_of side n verdict condition) s) × (t7 ≡ fronted_into (line_of side n verdict condition) s)
+  line_fits h t1 t2 t3 t4 t5 t6 t7 n1 n2 n3 n4 n5 n6 n7 e1 m1 l1 e2 m2 l2 e3 m3 l3 e4 m4 l4 e5 m5 l5 e6 m6 l6 e7 m7 l7 =
+      text_fits (line_of side n verdict condition) s t7 n7 (omega (arith, length_line)) (staged s h t1 t2 t3 t4 t5 t6 t7 n1 n2 n3 n4 n5 n6 n7 e1 m1 l1 e2 m2 l2 e3 m3 l3 e4 m4 l4 e5 m5 l5 e6 m6 l6 e7 m7 l7)
+
   -- where there is, and the pieces were written at the front of a list and copied from there
-  pub line_fits : length w + 1 + length d + 1 + length v + 2 + length c ≤ length s → (z part : List ℕ) → length w + 1 + length d + 1 + length v + 2 + length c ≤ length z → (t1 t2 t3 t4 t5 t6 t7 : List ℕ) (n1 n2 n3 n4 n5 n6 n7 : ℕ)
+  pub line_stored : length w + 1 + length d + 1 + length v + 2 + length c ≤ length s → (z part : List ℕ) → length w + 1 + length d + 1 + length v + 2 + length c ≤ length z → (t1 t2 t3 t4 t5 t6 t7 : List ℕ) (n1 n2 n3 n4 n5 n6 n7 : ℕ)
       → t1 ≡ over 0 w z → n1 ≡ 0 + length w → length t1 ≡ length z
       → t2 ≡ over n1 (32 ∷ []) t1 → n2 ≡ n1 + 1 → length t2 ≡ length t1
       → t3 ≡ over n2 d t2 → n3 ≡ n2 + length d → length t3 ≡ length t2
@@ -101,12 +133,5 @@ module _ (side : Side) (n : ℕ) (verdict : Positioning) (condition : Condition)
       → t6 ≡ over n5 (58 ∷ 32 ∷ []) t5 → n6 ≡ n5 + 2 → length t6 ≡ length t5
       → t7 ≡ over n6 c t6 → n7 ≡ n6 + length c → length t7 ≡ length t6
       → part ≡ take n7 t7 → (Some n7 ≡ written (line_of side n verdict condition) s) × (part ++ drop n7 s ≡ fronted_into (line_of side n verdict condition) s)
-  line_fits h z part room t1 t2 t3 t4 t5 t6 t7 n1 n2 n3 n4 n5 n6 n7 e1 m1 l1 e2 m2 l2 e3 m3 l3 e4 m4 l4 e5 m5 l5 e6 m6 l6 e7 m7 l7 e =
-      let a1 = stage_next w t1 n1 (stage_none 0 z) (omega arith) e1 m1 l1 in
-      let a2 = stage_next (32 ∷ []) t2 n2 a1 (omega arith) e2 m2 l2 in
-      let a3 = stage_next d t3 n3 a2 (omega arith) e3 m3 l3 in
-      let a4 = stage_next (32 ∷ []) t4 n4 a3 (omega arith) e4 m4 l4 in
-      let a5 = stage_next v t5 n5 a4 (omega arith) e5 m5 l5 in
-      let a6 = stage_next (58 ∷ 32 ∷ []) t6 n6 a5 (omega arith) e6 m6 l6 in
-      let a7 = stage_next c t7 n7 a6 (omega arith) e7 m7 l7 in
-      text_stored (line_of side n verdict condition) z t7 s part n7 (omega (arith, length_line)) (subst (λ (t : List ℕ). Stage 0 z t t7 n7) pieces_line a7) e
+  line_stored h z part room t1 t2 t3 t4 t5 t6 t7 n1 n2 n3 n4 n5 n6 n7 e1 m1 l1 e2 m2 l2 e3 m3 l3 e4 m4 l4 e5 m5 l5 e6 m6 l6 e7 m7 l7 e =
+      text_stored (line_of side n verdict condition) z t7 s part n7 (omega (arith, length_line)) (staged z room t1 t2 t3 t4 t5 t6 t7 n1 n2 n3 n4 n5 n6 n7 e1 m1 l1 e2 m2 l2 e3 m3 l3 e4 m4 l4 e5 m5 l5 e6 m6 l6 e7 m7 l7) e

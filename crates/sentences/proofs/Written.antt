@@ -29,6 +29,10 @@ pub written_length : (text s : List ℕ) → length text ≤ length s → writte
 unfolding written
 written_length text s h = simp (le-ltb (length s) (length text) h)
 
+-- where there is, and the text is written
+pub text_fits : (text s cur : List ℕ) (n : ℕ) → length text ≤ length s → Stage 0 s text cur n → (Some n ≡ written text s) × (cur ≡ fronted_into text s)
+text_fits text s cur n h e = (ap Some (e.end ∙ zero-add (length text)) ∙ sym (written_length text s h), e.written ∙ over_front text s ∙ sym (into_fits text s h))
+
 -- where there is, and the text was written at the front of a list and copied from there
 pub text_stored : (text z cur s part : List ℕ) (n : ℕ) → length text ≤ length s → Stage 0 z text cur n → part ≡ take n cur → (Some n ≡ written text s) × (part ++ drop n s ≡ fronted_into text s)
 unfolding fronted

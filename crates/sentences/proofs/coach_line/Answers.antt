@@ -1,7 +1,7 @@
 -- The pieces, each where the one before it ended, are the line.
 use Rattle.std.proofs.Common.{ℕ, refl, ap, length, replicate, arith}
 use Rattle.std.proofs.lemmas.List.{length-replicate}
-use Rattle.sentences.proofs.Pieces.{digits_told, line_short, line_fits}
+use Rattle.sentences.proofs.Pieces.{digits_told, line_short, line_stored}
 use Rattle.sentences.proofs.coach_line.Goals as goal
 
 pub returns-then-too_few : goal.returns-then-too_few
@@ -12,7 +12,7 @@ returns-then-too_few c =
 pub returns : goal.returns
 returns c =
     let digits = digits_told c.args.number c.digits_of-count.result c.digits_of-count.ensures.value in
-    let whole = line_fits c.args.side c.args.number c.args.verdict c.args.condition _ _ _ _ c.args.text.now c.side_word-s.ensures.value digits c.verdict_words-v.ensures.value c.condition_words-c.ensures.value
+    let whole = line_stored c.args.side c.args.number c.args.verdict c.args.condition _ _ _ _ c.args.text.now c.side_word-s.ensures.value digits c.verdict_words-v.ensures.value c.condition_words-c.ensures.value
     (omega (arith, c.if-too_few.false, c.digits_of-count.ensures.value, ap length digits))
     (replicate 80 0) c.copy_from_slice.new.self
     (omega (arith, c.side_word-s.ensures.few, c.verdict_words-v.ensures.few, c.condition_words-c.ensures.few, c.digits_of-count.ensures.few, c.digits_of-count.ensures.value, ap length digits, length-replicate {A = ℕ} 80 0)) _ _ _ _ _ _ _ _ _ _ _ _ _ _
